@@ -25,10 +25,9 @@ LOG = target/staticlib.log
 LIBRARY = $(if $(TARGET),target/$(TARGET)/libgrommetide.a,$(OWN))
 WASM = $(dir $(LIBRARY))grommetide.wasm
 
-CRATES := $(shell sed -n 's/^grommetide: *//p' crates.txt) grommetide
-SOURCES := crates.txt $(shell find $(addprefix crates/,$(CRATES)) -name must-fail -prune -o -type f -print)
+SOURCES := crates.txt $(shell find crates -name must-fail -prune -o -type f -print)
 
-# 0.10.0, from the header
+# 0.11.0, from the header
 number = $(shell sed -n 's/^\#define GROMMETIDE_VERSION_$(1) *//p' $(HEADER))
 VERSION = $(call number,MAJOR).$(call number,MINOR).$(call number,PATCH)
 

@@ -150,11 +150,14 @@
  *     6      number of blocks
  *     7-14   pending bytes of hosts 0 to 3, two bytes each
  *     15     edition of the current block, 1 or 2
- *     16-1083 the library's own: 16-527 places of values, 528-579 the job, 580-831 and 832-1083 frames in hand
+ *     16-527 places of objects 0 to 255, two bytes each: the offset in the current block of the frame that the settled value
+ *            stands in, 0 if there is none
+ *     528-1083 the library's own: 528-579 the job, 580-831 and 832-1083 frames in hand
  *
- *   Bytes 1 to 15 mean this in an idle record. An unmounted or idle record that the library hands out has zeros in all
- *   bytes it does not use. A record that does not belong to the image is noticed (GROMMETIDE_STALE), or, in a job, does
- *   one flash step at a time and ends, or is noticed, within 65,536 steps.
+ *   Bytes 1 to 527 mean this in an idle record. An unmounted or idle record that the library hands out has zeros in all
+ *   bytes it does not use. A record that does not belong to the image is noticed (GROMMETIDE_STALE): by all requests but a
+ *   read, which looks at one frame only (grommetide_read). Or, in a job, it does one flash step at a time and ends, or is
+ *   noticed, within 65,536 steps.
  *
  * Rules for all calls
  *
@@ -172,9 +175,9 @@
  *
  *     x86-64, AArch64, RISC-V 64   memcpy, memset
  *     RISC-V 32                    memcpy, memset, __udivdi3
- *     Cortex-M3, Cortex-M4         __aeabi_memcpy, __aeabi_memcpy8, __aeabi_memset, __aeabi_memclr, __aeabi_memclr4,
- *                                  __aeabi_memclr8, __aeabi_uldivmod
- *     Cortex-M0                    these and __aeabi_uidiv, __aeabi_lmul
+ *     Cortex-M3, Cortex-M4         __aeabi_memcpy, __aeabi_memcpy4, __aeabi_memcpy8, __aeabi_memset, __aeabi_memclr,
+ *                                  __aeabi_memclr4, __aeabi_memclr8, __aeabi_uldivmod
+ *     Cortex-M0                    these and __aeabi_lmul
  *     WebAssembly                  none
  *
  *   For x86-64 it is compiled under the System V ABI. It moves data through the SSE registers (xmm, SSE2), so whoever
@@ -190,7 +193,7 @@
  *     grommetide_fault           3,584       3,584
  *     grommetide_format          3,584       3,584
  *     grommetide_request         2,560       3,072
- *     grommetide_read            1,792       1,792
+ *     grommetide_read              896         896
  *     grommetide_next              640         640
  *     grommetide_made            3,328       3,328
  *     grommetide_step            2,816       3,072
@@ -216,6 +219,10 @@ typedef uint64_t grommetide_size;
 /*
  * This header's version. A record is of use only to the version that wrote it; the flash may outlive versions.
  *
+ *   0.11 an idle record says where each settled value stands, and a read looks there and nowhere else: its time no longer
+ *        depends on the image's size, GROMMETIDE_MALFORMED goes before GROMMETIDE_STALE in it, and it does not notice what the
+ *        other requests notice. Those also check the places. The record has 1,084 bytes as in 0.10; steps and flash are those
+ *        of 0.10.
  *   0.10 a mount after a power cut mends the block in place and moves the store no longer, except where that has no room; only
  *        there it can be refused with GROMMETIDE_WORN. So two new kinds of frame, a byte of a torn frame that is programmed
  *        twice, and a record of 1,084 bytes. It takes the flash of 0.9 as it is. See "After a power cut" before you go back.
@@ -238,7 +245,7 @@ typedef uint64_t grommetide_size;
  *   0.1  values of up to 64 bytes, a record of 690 bytes. It finds flash in which a longer value stands foreign.
  */
 #define GROMMETIDE_VERSION_MAJOR 0
-#define GROMMETIDE_VERSION_MINOR 10
+#define GROMMETIDE_VERSION_MINOR 11
 #define GROMMETIDE_VERSION_PATCH 0
 
 /*
@@ -258,7 +265,10 @@ typedef uint64_t grommetide_size;
 /* The most bytes of a value. The message that puts it has six more. */
 #define GROMMETIDE_VALUE_MAX 240
 
-/* Answers. If more than one refusal applies, the first in this order is given: 4, 10, 5, 2, 3, 11, 1, 8, 9, 16, 12, 7, 6. */
+/*
+ * Answers. If more than one refusal applies, the first in this order is given: 4, 10, 5, 2, 3, 11, 1, 8, 9, 16, 12, 7, 6. For a
+ * message of a read's kind, 0x0105, it is 4, 10, 5, 2, 1, 11, 8.
+ */
 enum {
     GROMMETIDE_DONE = 0,             /* finished, or nothing to do */
     GROMMETIDE_MALFORMED = 1,        /* the message's length, kind, id, value length or page */
@@ -272,7 +282,8 @@ enum {
     GROMMETIDE_NO_OBJECT = 8,        /* read: there is no settled object of this id */
     GROMMETIDE_SHORT_REPLY = 9,      /* log: the reply buffer has fewer than 14 bytes */
     GROMMETIDE_HOST_RANGE = 10,      /* the host is above 3 */
-    GROMMETIDE_STALE = 11,           /* the record belongs to another image, number of blocks or edition */
+    GROMMETIDE_STALE = 11,           /* the record belongs to another image, number of blocks or edition; for a read, to another
+                                        length or number of blocks, or the object's frame is not at its place */
     GROMMETIDE_HOST_FULL = 12,       /* put or delete: this host's pending changes would come to more than half a block */
     GROMMETIDE_PENDING = 16,         /* convert: something is pending */
     GROMMETIDE_PROGRAM = 252,        /* next: a byte is to be programmed */
@@ -332,13 +343,16 @@ uint8_t grommetide_format(const uint8_t *image, grommetide_size image_len, uint8
  *   0x0102 delete  id (2)                    likewise
  *   0x0103 commit                            the host's pending changes become settled, all or none
  *   0x0104 abort                             the host's pending changes are dropped
- *   0x0105 read    id (2)                    only answers whether the object is there; see grommetide_read
+ *   0x0105 read    id (2)                    only answers whether the object is there, as grommetide_read does
  *   0x0106 log     page (1), which is 1      writes 14 bytes to the reply: length 14 (2), kind 0x0201 (2), creation
  *                                            time (4), settled objects (2), bytes they need (2), bytes of a block (2)
  *   0x0108 convert                           takes the store to edition 2 ("The two editions of the flash format")
  *
  * Numbers are little-endian. Only log writes to the reply, and only if it answers DONE; bytes after the 14 stay.
- * DONE: finished, without a step. MORE: accepted, steps are left. Refused: any but FOREIGN.
+ * DONE: finished, without a step. MORE: accepted, steps are left. Refused: any but FOREIGN. All but a read go through the whole
+ * image first: STALE is given exactly if length or number of blocks is not the record's; the current block is not there or not
+ * valid, in the recorded edition; its frames do not end at the recorded end, with only 0xFF after them; another block is not
+ * blank; what is pending leaves no room to commit it; or pending bytes or places, of any object, are not those of its frames.
  */
 uint8_t grommetide_request(const uint8_t *image, grommetide_size image_len, uint8_t blocks, uint8_t *record,
                            grommetide_size record_len, uint8_t host, const uint8_t *message, grommetide_size message_len,
@@ -346,8 +360,13 @@ uint8_t grommetide_request(const uint8_t *image, grommetide_size image_len, uint
 
 /*
  * Where a settled value stands: *len bytes from image[*at] on, counted from the image's start. The message is a read
- * (0x0105). DONE: found; *len is 0 for an empty value. Refused: IMAGE_LENGTH, HOST_RANGE, BUSY, NO_STORE, STALE, MALFORMED
- * (also for a message that is no read), NO_OBJECT; *at and *len are then set to 0. With WRONG_RECORD they stay.
+ * (0x0105). It looks at the frame that the record has a place for, and at nothing else of the image, so it takes no longer in a
+ * large one. DONE: found; *len is 0 for an empty value. Refused, in this order: IMAGE_LENGTH, HOST_RANGE, BUSY, NO_STORE;
+ * MALFORMED; STALE exactly if image_len or blocks is not the record's, or the object has a place and no legal put or settled
+ * frame of the object is there, by the recorded edition, in the recorded block; NO_OBJECT exactly if it has no place. *at and
+ * *len are then set to 0. With WRONG_RECORD they stay. Under the record and image of the last call all that is as if the whole
+ * image had been read. A damaged image is noticed only if the frame itself is; any other request goes through all of it.
+ * A message of another kind is MALFORMED here.
  */
 uint8_t grommetide_read(const uint8_t *image, grommetide_size image_len, uint8_t blocks, const uint8_t *record,
                         grommetide_size record_len, uint8_t host, const uint8_t *message, grommetide_size message_len,

@@ -35,6 +35,7 @@ void __aeabi_memclr(void *to, size_t len)
 }
 
 void __aeabi_memcpy(void *to, const void *from, size_t len) __attribute__((alias("memcpy")));
+void __aeabi_memcpy4(void *to, const void *from, size_t len) __attribute__((alias("memcpy")));
 void __aeabi_memcpy8(void *to, const void *from, size_t len) __attribute__((alias("memcpy")));
 void __aeabi_memclr4(void *to, size_t len) __attribute__((alias("__aeabi_memclr")));
 void __aeabi_memclr8(void *to, size_t len) __attribute__((alias("__aeabi_memclr")));

@@ -10,23 +10,27 @@ use Rattle.frame.specs.declared.Edition.{Edition}
 use Rattle.frame.specs.declared.Edition.the-variants as edition
 use Rattle.flash.specs.Flash.{maxBlocks, isCount, Step, erase, block, sizeOf, applyAll, writes}
 use Rattle.flash.proofs.Cases.{between}
-use Rattle.frame.specs.Frame.{Frame, encode, encodeAll, frameLen, total, editionNumber, editionBy}
-use Rattle.frame.proofs.Encode.{length-encode, length-all, edition-back}
+use Rattle.frame.specs.declared.Host.{Host}
+use Rattle.frame.specs.Frame.{put, delete, Frame, change, commit, abort, settled, closed, reset, encode, encodeAll, frameLen, total, editionNumber, editionBy}
+use Rattle.frame.specs.Frame.{MayStand}
+use Rattle.frame.proofs.Encode.{length-encode, length-all, edition-back, stands-edition}
 use Rattle.journal.specs.Replay.{State, framesOf, settledOnly}
 use Rattle.journal.specs.Block.{Journal, build, headerLen}
 use Rattle.journal.specs.Room.{claimed, used}
-use Rattle.journal.specs.Index.{placesOf, sinceOf}
+use Rattle.journal.specs.Index.{placesOf, sinceOf, placeAll, commits}
 use Rattle.journal.proofs.Places.{Standing}
 use Rattle.journal.proofs.Room.{frames-total, used-claimed, claimed-settled, claimed-replay}
+use Rattle.journal.proofs.Replaying.{stands-replay, stands-settled, none-closed}
+use Rattle.journal.proofs.Copied.{place-same, copied-settled, copied-all}
 use Rattle.journal.proofs.Loading.{Yields, yields-none, yields-settled, yields-all}
 use Rattle.board.specs.declared.Job.{Job}
 use Rattle.board.specs.declared.Rest.{Rest}
 use Rattle.board.specs.declared.Record.{Record}
-use Rattle.board.specs.Record.{allowed, noPlaces, zeroEach, landing, ending, idle}
-use Rattle.board.specs.Step.{enterWipe}
-use Rattle.board.specs.Mount.{nextBlock, newTime, endOf, Store, Upkeep, moves, upkeep, transfers, mountJob, formatOrder, formatJob, replayOf, usedOf}
+use Rattle.board.specs.Record.{allowed, noPlaces, zeroEach, buffer, landing, ending, idle}
+use Rattle.board.specs.Step.{endsWith, enterWipe}
+use Rattle.board.specs.Mount.{nextBlock, newTime, endOf, Store, Upkeep, moves, upkeep, mountJob, formatOrder, formatJob, replayOf, usedOf}
 use Rattle.board.specs.Mount.{claimedOf, timeOf, rests, mends, storeAt, closedEnd, closesFor, dueReset, standsFor, blockIn}
-use Rattle.board.specs.Queue.{appendJob, counted, convertJob}
+use Rattle.board.specs.Queue.{placesFor, appendJob, counted, convertJob}
 use Rattle.board.specs.Exec.{exec}
 use Rattle.board.specs.Plan.{Follows, Performs, afterSteps, onBlock, formatWork, upkeepWork, mountIn, frameWork, convertWork}
 use Rattle.board.proofs.Numbers.{next-there, next-other}
@@ -50,13 +54,13 @@ journal-fits ed s k img fs g =
 
 pub follows-format : (N : ℕ) (img : List ℕ) → allowed N (length img) ≡ true
     → Performs N (exec N) img (enterWipe (formatJob N img)) (formatWork N img)
-unfolding writes encodeAll total
+unfolding writes encodeAll total placeAll
 follows-format N img h =
     let j : Job = formatJob N img .job in
     let sized : Sized N (sizeOf N img) img = sized-of N img h in
     follows-moving img (formatJob N img .rest) noPlaces j 256 headerLen [] [] (formatOrder N img) (sized-last sized) (sized .count) refl
     (order-blocks N img) (record { wipe = refl; wipes = refl; closes = refl; close = refl; size = refl }) (next-there 0 (omega (arith, sized .few)))
-    (omega (arith, sized .low)) edition.First edition.First refl refl [] refl
+    (omega (arith, sized .low)) edition.First edition.First refl refl [] noPlaces refl refl
     (omega (arith, sized .few)) (λ q. next-other 0 (sized .few) (omega (arith, sized .few)) (sym q)) (omega (arith, sized .low))
     (yields-none edition.First (block (sizeOf N img) (nextBlock N 0) (applyAll (sizeOf N img) (map erase (formatOrder N img)) img)) headerLen noPlaces zeroEach)
 
@@ -107,21 +111,22 @@ module _ {N : ℕ} (img : List ℕ) (x : Store) (ks : List ℕ) (h : allowed N (
       let total-is : headerLen + total ed (framesOf st) ≡ usedOf (x .journal) = frames-total ed st ∙ claimed-settled ed (replayOf (x .journal)) in
       let end-is : headerLen + total ed (framesOf st) + 0 ≡ usedOf (x .journal) = omega arith in
       let made : List Step = onBlock (nextBlock N k) (build ed (suc (timeOf x)) (framesOf st)) ++ (erase k ∷ []) in
-      subst (λ (m : ℕ). Follows N (exec N) img (enterWipe (job moves)) (map erase ks ++ made) (idle (landing at (editionNumber ed) (nextBlock N k) m))) end-is
+      subst (λ (m : ℕ). Follows N (exec N) img (enterWipe (job moves)) (map erase ks ++ made) (idle (placesOf ed (framesOf st)) (landing at (editionNumber ed) (nextBlock N k) m))) end-is
       (subst (λ (ys : List Step). Follows N (exec N) img (enterWipe (job moves)) ys
-      (idle (landing at (editionNumber ed) (nextBlock N k) (headerLen + total ed (framesOf st) + 0))))
+      (idle (placesOf ed (framesOf st)) (landing at (editionNumber ed) (nextBlock N k) (headerLen + total ed (framesOf st) + 0))))
       (no-append (nextBlock N k) (headerLen + total ed (framesOf st)) (map erase ks) made)
       (follows-moving img at (placesOf ed fs) (job moves .job) 0 e [] [] ks (sized-last sized) (sized .count) refl (besides-blocks N k ks others)
       (record { wipe = refl; wipes = refl; closes = refl; close = refl; size = refl }) here (omega (arith, fits))
-      ed ed (edition-back ed) (edition-back ed) (framesOf st) refl (next-there k here) (next-other k (sized .few) here)
+      ed ed (edition-back ed) (edition-back ed) (framesOf st) (placesOf ed (framesOf st))
+      (copied-settled ed ed (endsWith (buffer [])) fs (stands-settled ed fs (g .stand))) refl (next-there k here) (next-other k (sized .few) here)
       (omega (arith, fits, used-claimed ed (replayOf (x .journal)), claimed-replay ed fs))
       (subst (λ (b : List ℕ). Yields ed b e (placesOf ed fs) zeroEach 0 e (framesOf st)) (sym same) (yields-settled ed (block s k img) fs zeroEach g))))
 
   mount-rests : Does rests
   mount-rests =
       let end-is : e + 0 ≡ e = omega arith in
-      subst (λ (n : ℕ). Follows N (exec N) img (enterWipe (job rests)) (map erase ks ++ []) (idle (ending at n))) end-is
-      (subst (λ (ys : List Step). Follows N (exec N) img (enterWipe (job rests)) ys (idle (ending at (e + 0)))) (no-append k e (map erase ks) [])
+      subst (λ (n : ℕ). Follows N (exec N) img (enterWipe (job rests)) (map erase ks ++ []) (idle (placesOf ed fs) (ending at n))) end-is
+      (subst (λ (ys : List Step). Follows N (exec N) img (enterWipe (job rests)) ys (idle (placesOf ed fs) (ending at (e + 0)))) (no-append k e (map erase ks) [])
       (follows-staying img at (placesOf ed fs) (job rests .job) 0 e [] [] ks (sized-last sized) (sized .count) refl (besides-blocks N k ks others)
       (record { wipe = refl; wipes = refl; closes = refl; close = refl; size = refl }) here (omega (arith, fits)) refl (omega (arith, fits)) (closing-none s)))
 
@@ -140,15 +145,25 @@ module _ {N : ℕ} (img : List ℕ) (x : Store) (ks : List ℕ) (h : allowed N (
       go rests q = mount-rests
       go mends q = mount-mends fit (mends-fits s (x .journal) q low)
 
+-- the buffer of a frame tells whose commit it is
+ends-commit : (ed : Edition) (f : Frame) (h : Host) → endsWith (buffer (encode ed f)) h ≡ commits f h
+ends-commit ed (change g (put i v)) h = refl
+ends-commit ed (change g (delete i)) h = refl
+ends-commit ed (commit g) h = refl
+ends-commit ed (abort g) h = refl
+ends-commit ed (settled i v) h = refl
+ends-commit ed (closed v) h = refl
+ends-commit ed reset h = refl
+
 -- ---- a queue request's frame
 
 pub follows-frame : {N : ℕ} (img : List ℕ) (r : Record) (x : Journal) (f : Frame) → isCount N ≡ true → length img ≡ suc (r .rest .last)
     → r .rest .blocks ≡ N → r .rest .block < N → Standing (x .edition) (block (sizeOf N img) (r .rest .block) img) (x .frames)
     → r .rest .end ≡ endOf x → r .rest .edition ≡ editionNumber (x .edition)
-    → claimedOf x + frameLen (x .edition) f ≤ sizeOf N img
+    → claimedOf x + frameLen (x .edition) f ≤ sizeOf N img → MayStand (x .edition) 256 f
     → Performs N (exec N) img (enterWipe (appendJob N img r x f)) (frameWork N img r x f)
 unfolding applyAll
-follows-frame {N} img r x f count long blocks here g end kind room =
+follows-frame {N} img r x f count long blocks here g end kind room stands =
     let k : ℕ = r .rest .block in
     let ed : Edition = x .edition in
     let s : ℕ = sizeOf N img in
@@ -159,33 +174,38 @@ follows-frame {N} img r x f count long blocks here g end kind room =
     let header : headerLen ≤ s = omega (arith, journal-fits ed s k img (x .frames) g) in
     let has : Has (a .job) [] [] (encode ed f) = record { wipe = refl; wipes = refl; closes = refl; close = refl; size = sym (length-encode ed f) } in
     let begun : Record = enterWipe a in
+    let placed : List ℕ = placesOf ed (fs ++ (f ∷ [])) in
     frame-cases (λ w. Performs N (exec N) img begun w) s (nextBlock N k) z x f
     (λ t.
     let total-is : headerLen + total ed fs ≡ claimed ed st = frames-total ed st in
     subst
     (λ (n : ℕ).
     Follows N (exec N) img begun ((onBlock (nextBlock N k) (build ed n fs) ++ (erase k ∷ [])) ++ onBlock (nextBlock N k) (writes (claimed ed st) (encode ed f)))
-    (idle (landing z (z .edition) (nextBlock N k) (claimed ed st + frameLen ed f))))
+    (idle placed (landing z (z .edition) (nextBlock N k) (claimed ed st + frameLen ed f))))
     (ap (λ (b : Bool). newTime b (x .time)) t)
     (subst₂
     (λ (n m : ℕ).
     Follows N (exec N) img begun ((onBlock (nextBlock N k) (build ed (a .job .time) fs) ++ (erase k ∷ [])) ++ onBlock (nextBlock N k) (writes n (encode ed f)))
-    (idle (landing z (z .edition) (nextBlock N k) (n + m))))
+    (idle placed (landing z (z .edition) (nextBlock N k) (n + m))))
     total-is (length-encode ed f)
     (subst
     (λ (n : ℕ).
     Follows N (exec N) img begun
     ((onBlock (nextBlock N k) (build ed (a .job .time) fs) ++ (erase k ∷ [])) ++ onBlock (nextBlock N k) (writes (headerLen + total ed fs) (encode ed f)))
-    (idle (landing z n (nextBlock N k) (headerLen + total ed fs + length (encode ed f)))))
+    (idle placed (landing z n (nextBlock N k) (headerLen + total ed fs + length (encode ed f)))))
     (sym kind)
-    (follows-moving img z (placesOf ed (x .frames)) (a .job) 0 headerLen [] (encode ed f) [] long count blocks tt has here header
-    ed ed (edition-back ed) (ap editionBy kind ∙ edition-back ed) fs t (next-there k here)
+    (follows-moving img z (a .places) (a .job) 0 headerLen [] (encode ed f) [] long count blocks tt has here header
+    ed ed (edition-back ed) (ap editionBy kind ∙ edition-back ed) fs placed
+    (ap (placeAll ed (endsWith (buffer (encode ed f))) headerLen fs) (ap (λ (b : Bool). placesFor b x f) t)
+    ∙ place-same ed (endsWith (buffer (encode ed f))) (commits f) headerLen fs (placesOf ed (x .frames)) (ends-commit ed f)
+    ∙ copied-all ed (x .frames) (stands-replay ed (x .frames) (g .stand)) f stands) t (next-there k here)
     (next-other k (between 2 N maxBlocks count .0) here) (omega (arith, length-encode ed f))
-    (subst (λ (n : ℕ). Yields ed (block s k img) n (placesOf ed (x .frames)) (sinceOf ed (x .frames)) 0 headerLen fs) (sym end)
-    (yields-all ed (block s k img) (x .frames) g))))))
+    (subst₂ (λ (n : ℕ) (ps : List ℕ). Yields ed (block s k img) n ps (sinceOf ed (x .frames)) 0 headerLen fs) (sym end)
+    (sym (ap (λ (b : Bool). placesFor b x f) t)) (yields-all ed (block s k img) (x .frames) g))))))
     (λ t.
-    subst (λ (m : ℕ). Follows N (exec N) img begun (onBlock k (writes (z .end) (encode ed f))) (idle (ending z (z .end + m)))) (length-encode ed f)
-    (follows-staying img z (placesOf ed (x .frames)) (a .job) 0 headerLen [] (encode ed f) [] long count blocks tt has here header t
+    subst₂ (λ (m : ℕ) (ps : List ℕ). Follows N (exec N) img begun (onBlock k (writes (z .end) (encode ed f))) (idle ps (ending z (z .end + m))))
+    (length-encode ed f) (ap (λ (b : Bool). placesFor b x f) t)
+    (follows-staying img z (a .places) (a .job) 0 headerLen [] (encode ed f) [] long count blocks tt has here header t
     (omega (arith, length-encode ed f, ltb-false (sizeOf N img) (r .rest .end + frameLen ed f) t)) (closing-none s)))
 
 -- ---- a convert
@@ -208,11 +228,15 @@ follows-convert {N} img r x count long blocks here g end kind room =
     let total-is : headerLen + total edition.Second fs ≡ used edition.Second (replayOf x) =
     frames-total edition.Second st ∙ claimed-settled edition.Second (replayOf x) in
     let end-is : headerLen + total edition.Second fs + 0 ≡ used edition.Second (replayOf x) = omega arith in
-    subst (λ (n : ℕ). Follows N (exec N) img (enterWipe c) ys (idle (landing (r .rest) 2 (nextBlock N k) n))) end-is
-    (subst (λ (zs : List Step). Follows N (exec N) img (enterWipe c) zs (idle (landing (r .rest) 2 (nextBlock N k) (headerLen + total edition.Second fs + 0))))
+    let placed : List ℕ = placesOf edition.Second fs in
+    subst (λ (n : ℕ). Follows N (exec N) img (enterWipe c) ys (idle placed (landing (r .rest) 2 (nextBlock N k) n))) end-is
+    (subst (λ (zs : List Step). Follows N (exec N) img (enterWipe c) zs
+    (idle placed (landing (r .rest) 2 (nextBlock N k) (headerLen + total edition.Second fs + 0))))
     (no-append (nextBlock N k) (headerLen + total edition.Second fs) [] ys)
     (follows-moving img (r .rest) (placesOf ed (x .frames)) (c .job) 0 (endOf x) [] [] [] long count blocks tt has here header
-    edition.Second ed refl (ap editionBy kind ∙ edition-back ed) fs refl (next-there k here)
+    edition.Second ed refl (ap editionBy kind ∙ edition-back ed) fs placed
+    (copied-settled ed edition.Second (endsWith (buffer [])) (x .frames)
+    (stands-edition ed edition.Second 0 fs (none-closed st) (stands-settled ed (x .frames) (g .stand)))) refl (next-there k here)
     (next-other k (between 2 N maxBlocks count .0) here) (omega (arith, end-is))
     (subst (λ (n : ℕ). Yields ed (block s k img) n (placesOf ed (x .frames)) zeroEach 0 (endOf x) fs) (sym end)
     (yields-settled ed (block s k img) (x .frames) zeroEach g))))

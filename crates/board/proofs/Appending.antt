@@ -23,7 +23,7 @@ use Rattle.journal.proofs.Building.{Lands, lands-ff}
 use Rattle.journal.specs.Room.{countsIn}
 use Rattle.board.specs.declared.Rest.{Rest}
 use Rattle.board.specs.Record.{landing, idle}
-use Rattle.board.specs.Mount.{endOf, replayOf}
+use Rattle.board.specs.Mount.{endOf, replayOf, placesIn}
 use Rattle.board.specs.Plan.{onBlock, appendPlan}
 use Rattle.board.specs.Claim.{Track}
 use Rattle.board.proofs.Invariant.{StepLands, Safe, Guard}
@@ -191,10 +191,10 @@ module _ {N : ℕ} {s k : ℕ} {img : List ℕ} {w : Journal} (a : Alone N s img
   pub append-ends : (z : Rest) → z .blocks ≡ N → length img ≡ suc (z .last) → z .pending ≡ countsIn (w .edition) (nextState (replayOf w) f)
       → Roomy s (w .edition) (nextState (replayOf w) f)
       → After N s (w .edition) (applyAll s (appendPlan (w .edition) k (endOf w) f) img)
-      (idle (landing z (editionNumber (w .edition)) k (endOf w + frameLen (w .edition) f))) (nextState (replayOf w) f)
+      (idle (placesIn (with-frame w f)) (landing z (editionNumber (w .edition)) k (endOf w + frameLen (w .edition) f))) (nextState (replayOf w) f)
   append-ends z b e counts room =
       let end : endOf (with-frame w f) ≡ endOf w + frameLen (w .edition) f = omega (arith, total-snoc (w .edition) (w .frames) f) in
       subst (λ (n : ℕ). After N s (w .edition) (applyAll s (appendPlan (w .edition) k (endOf w) f) img)
-      (idle (landing z (editionNumber (w .edition)) k n)) (nextState (replayOf w) f)) end
+      (idle (placesIn (with-frame w f)) (landing z (editionNumber (w .edition)) k n)) (nextState (replayOf w) f)) end
       (alone-after z (nextState (replayOf w) f) append-alone refl b (length-all-steps s (appendPlan (w .edition) k (endOf w) f) img ∙ e)
       (replay-snoc (w .frames) f) counts room)

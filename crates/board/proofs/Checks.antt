@@ -8,8 +8,9 @@ use lib.ListN.{length}
 use Rattle.frame.specs.declared.Edition.the-variants as edition
 use Rattle.flash.specs.Flash.{sizeOf, within}
 use Rattle.frame.specs.declared.Host.{Host}
+use Rattle.frame.specs.declared.ObjectId.{ObjectId}
 use Rattle.frame.specs.Frame.{hostMax, put, delete}
-use Rattle.journal.specs.Replay.{lookup, Entry}
+use Rattle.journal.specs.Replay.{Entry}
 use Rattle.journal.specs.Block.{Journal, lastTime}
 use Rattle.journal.specs.Room.{noRoom, hostFull, used}
 use Rattle.wire.specs.declared.Answer.{Answer}
@@ -20,7 +21,7 @@ use Rattle.wire.specs.declared.Request.{Request}
 use Rattle.wire.specs.declared.Request.the-variants.{Put, Delete, Commit, Abort, Read, Log, Convert}
 use Rattle.wire.specs.declared.Parsed.{Parsed}
 use Rattle.wire.specs.declared.Parsed.the-variants.{Is, Malformed}
-use Rattle.wire.specs.Message.{parse, valueIn, pageLen}
+use Rattle.wire.specs.Message.{parse, valueIn, pageLen, ofReadKind, idIn}
 use Rattle.board.specs.declared.Phase.{Phase}
 use Rattle.board.specs.declared.Phase.the-variants.{Unmounted, Idle, Busy}
 use Rattle.board.specs.declared.Record.{Record}
@@ -28,9 +29,9 @@ use Rattle.board.specs.Record.{allowed}
 use Rattle.board.specs.Step.{sameShape, action}
 use Rattle.board.specs.Mount.{allFound, anyForeign, stores, Store, equalTimes, newest, upkeep, transfers, Found, noneValid, lowestTied}
 use Rattle.board.specs.Mount.{tiedTimes, replayOf, timeOf}
-use Rattle.board.specs.Queue.{Asking, asking, sizeFor, heldFor, movesFor}
+use Rattle.board.specs.Queue.{Asking, asking, sizeFor, heldFor, movesFor, valueFor}
 use Rattle.board.specs.Exec.{Call, request, step, mount, format}
-use Rattle.board.specs.Table.{isNone, isBusy, Task, idles, appends, converts, taskFor}
+use Rattle.board.specs.Table.{isNone, isBusy, Task, idles, appends, converts, taskFor, placeFor}
 
 -- a line of the table: the refusal, and whether its condition holds
 pub record Check : Type 0 where
@@ -58,16 +59,7 @@ abbrev pub isMalformed : Parsed → Bool
 isMalformed Malformed = true
 isMalformed (Is q) = false
 
--- 8: "read: no such settled object"; 9: "log: reply under 14 bytes"
-abbrev pub noObject : Journal → Request → Bool
-noObject x (Put i) = false
-noObject x (Delete i) = false
-noObject x Commit = false
-noObject x Abort = false
-noObject x (Read i) = isNone (lookup i (replayOf x .objects))
-noObject x (Log p) = false
-noObject x Convert = false
-
+-- 9: "log: reply under 14 bytes"
 abbrev pub shortReply : Asking → Request → Bool
 shortReply a (Put i) = false
 shortReply a (Delete i) = false
@@ -123,25 +115,41 @@ worn a x idles = false
 worn a x (appends f) = movesFor a x f && eqb (x .time) lastTime
 worn a x converts = eqb (x .time) lastTime
 
--- 8, 9, 16, 12, 7, 6
+-- a read's 11, K8: another length or N, or a place that holds no frame of the id; its 8: no place
+abbrev pub placeLost : Asking → ObjectId → Bool
+placeLost a i =
+    not (sameShape (a .blocks) (length (a .image)) (a .board)) || (not (eqb (placeFor a i) 0) && isNone (valueFor a i (placeFor a i)))
+
+abbrev pub readChecks : Asking → ObjectId → List Check
+readChecks a i =
+    check refusal.Stale (placeLost a i) ∷ check refusal.NoObject (eqb (placeFor a i) 0) ∷ check refusal.ShortReply false ∷ check refusal.Pending false
+    ∷ check refusal.HostFull false ∷ check refusal.NoRoom false ∷ check refusal.Worn false ∷ []
+
+-- of any other request: a read's two, 9, 16, 12, 7, 6
 abbrev pub heldChecks : Asking → Journal → Request → List Check
 heldChecks a x q =
-    check refusal.NoObject (noObject x q) ∷ check refusal.ShortReply (shortReply a q) ∷ check refusal.Pending (pendingRule x q)
+    check refusal.Stale false ∷ check refusal.NoObject false ∷ check refusal.ShortReply (shortReply a q) ∷ check refusal.Pending (pendingRule x q)
     ∷ check refusal.HostFull (hostFullFor a x q) ∷ check refusal.NoRoom (noRoomFor a x q)
     ∷ check refusal.Worn (worn a x (taskFor (a .host) (a .message) x q)) ∷ []
 
 -- where 11 or 1 holds no later line can be the first
-abbrev pub laterChecks : Asking → Option Journal → Parsed → List Check
-laterChecks a none p = []
-laterChecks a (some x) Malformed = []
-laterChecks a (some x) (Is q) = heldChecks a x q
+abbrev pub laterChecks : Asking → Bool → Option Journal → Parsed → List Check
+laterChecks a true o Malformed = []
+laterChecks a true o (Is q) = readChecks a (idIn (a .message))
+laterChecks a false none p = []
+laterChecks a false (some x) Malformed = []
+laterChecks a false (some x) (Is q) = heldChecks a x q
 
--- 4, 10, 5, 2, 11, 1, 8, 9, 16, 12, 7, 6
+-- from 11 on, of a read and of any other message
+abbrev pub fromStale : Asking → Bool → Option Journal → Parsed → List Check
+fromStale a b o p = check refusal.Stale (not b && isNone o) ∷ check refusal.Malformed (isMalformed p) ∷ laterChecks a b o p
+
+-- 4, 10, 5, 2, 11, 1, a read's 11, 8, 9, 16, 12, 7, 6
 abbrev pub requestChecks : Asking → List Check
 requestChecks a =
     check refusal.ImageLength (not (allowed (a .blocks) (length (a .image)))) ∷ check refusal.HostRange (ltb hostMax (a .host .0))
-    ∷ check refusal.Busy (isBusy (a .board .phase)) ∷ check refusal.NoStore (isUnmounted (a .board .phase)) ∷ check refusal.Stale (isNone (heldFor a))
-    ∷ check refusal.Malformed (isMalformed (parse (a .message))) ∷ laterChecks a (heldFor a) (parse (a .message))
+    ∷ check refusal.Busy (isBusy (a .board .phase)) ∷ check refusal.NoStore (isUnmounted (a .board .phase))
+    ∷ fromStale a (ofReadKind (a .message)) (heldFor a) (parse (a .message))
 
 -- ---- steps, mounts and formats
 

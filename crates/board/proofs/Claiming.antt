@@ -15,12 +15,13 @@ use Rattle.journal.specs.Replay.{Object, State, state, listOf, settledOnly}
 use Rattle.journal.specs.Block.{blockState}
 use Rattle.journal.proofs.Room.{kept-none, used-claimed}
 use Rattle.journal.proofs.States.{contents-valid}
-use Rattle.journal.specs.Laws.{changesBytes}
+use Rattle.journal.specs.Laws.{changesBytes, PlacesAre}
 use Rattle.journal.proofs.ReplayLaws.{changes-total, pending-exact}
 use Rattle.wire.specs.declared.Answer.{Answer}
 use Rattle.wire.specs.declared.Answer.the-variants.{Done, More, Refused}
 use Rattle.wire.specs.declared.Refusal.{Refusal}
 use Rattle.wire.specs.declared.Refusal.the-variants as refusal
+use Rattle.journal.proofs.Sources.{place-exact}
 use Rattle.board.specs.declared.Phase.{Phase}
 use Rattle.board.specs.declared.Phase.the-variants.{Unmounted, Idle, Busy}
 use Rattle.board.specs.declared.Record.{Record}
@@ -71,6 +72,8 @@ idle-agrees {N} {s} {img} {r} {b} u z y =
           ∙ pending-exact .are ed (y .ready .journal .frames) .each h k
           ∙ ap (changesBytes ed) (y .lists h k);
       edition-is = ap (λ (q : Record). q .rest .edition) (y .ready .is) ∙ y .ready .edition-is ∙ number-is ed;
+      places = subst (λ (q : Record). PlacesAre ed (q .places) (y .ready .journal .frames)) (sym (y .ready .is))
+          (place-exact .places-are ed (y .ready .journal .frames));
       room = left (y .spare);
     }
   where

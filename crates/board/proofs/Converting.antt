@@ -23,6 +23,7 @@ use Rattle.journal.proofs.Room.{kept-none, claimed-settled}
 use Rattle.wire.specs.declared.Refusal.the-variants as refusal
 use Rattle.wire.specs.declared.Answer.the-variants.{More, Done, Refused}
 use Rattle.wire.specs.declared.Request.the-variants.{Convert}
+use Rattle.journal.specs.Index.{placesOf}
 use Rattle.board.specs.declared.Record.{Record}
 use Rattle.board.specs.declared.Phase.{Phase}
 use Rattle.board.specs.declared.Phase.the-variants.{Unmounted, Idle, Busy}
@@ -77,7 +78,7 @@ module _ {N : ℕ} {s : ℕ} {img : List ℕ} {r : Record} {x : Journal} (h : As
   unfolding isOpen
   convert-ends =
       subst (λ (n : ℕ). After N s edition.Second (applyAll s (convertWork N img r x .steps) img)
-      (idle (landing (r .rest) 2 (nextBlock N (r .rest .block)) n)) st)
+      (idle (placesOf edition.Second (framesOf st)) (landing (r .rest) 2 (nextBlock N (r .rest .block)) n)) st)
       (claimed-settled edition.Second (replayOf x))
       (transferred (h .alone) edition.Second st moves (r .rest) (h .blocks) (h .long)
       (y .none-pending ∙ sym (counts-none edition.Second (st .objects))) (omega (arith, y .fits, claimed-settled edition.Second (replayOf x))))

@@ -11,7 +11,7 @@ use lib.Dec.{eqb}
 use borrow.Author.Tests.{eqb-true, eqb-false}
 use Rattle.flash.specs.Bytes.{Bytes}
 use Rattle.flash.specs.Flash.{sizeOf, withBlock}
-use Rattle.flash.proofs.Cases.{on-test}
+use Rattle.flash.proofs.Cases.{on-test, clash}
 use Rattle.frame.specs.declared.Host.{Host}
 use Rattle.frame.specs.Frame.{hostOf}
 use Rattle.wire.specs.declared.Answer.{Answer}
@@ -19,6 +19,13 @@ use Rattle.wire.specs.declared.Answer.the-variants.{Done, More, Refused}
 use Rattle.wire.specs.declared.Refusal.{Refusal}
 use Rattle.wire.specs.declared.Refusal.the-variants as refusal
 use Rattle.wire.specs.Answer.{numberOf}
+use Rattle.wire.specs.declared.Request.{Request}
+use Rattle.wire.specs.declared.Parsed.{Parsed}
+use Rattle.wire.specs.declared.Parsed.the-variants.{Is, Malformed}
+use Rattle.wire.specs.Message.{parse, ofReadKind, idIn}
+use Rattle.wire.specs.Sentences.{Means, ReadKind, MessagesExact, MalformedExact, ReadKindExact}
+use Rattle.wire.proofs.Sentences.{messages-exact, malformed-exact, read-kind-exact, read-asked}
+use Rattle.journal.specs.Block.{Journal}
 use Rattle.board.specs.declared.Stage.{Stage}
 use Rattle.board.specs.declared.Phase.{Phase}
 use Rattle.board.specs.declared.Phase.the-variants.{Unmounted, Idle, Busy}
@@ -26,13 +33,13 @@ use Rattle.board.specs.declared.Record.{Record}
 use Rattle.board.specs.Record.{Out, out}
 use Rattle.board.specs.Queue.{asking}
 use Rattle.board.specs.Exec.{Machine, Call, request, step, format}
-use Rattle.board.specs.Table.{Exactly, InJob, requestLines, linesOf}
+use Rattle.board.specs.Table.{Exactly, InJob, requestLines, linesOf, Fresh, PlaceLost}
 use Rattle.board.specs.Book.{Book, firstBook, enterCall}
 use Rattle.board.specs.Claim.{Never, ByteCall, Begins, Event, call, cutErase, CutsErase, Happens, Run, track, begunBy, formatted, HappensFrom, Claim}
 use Rattle.board.specs.Claim.{Track, tracked}
 use Rattle.board.specs.CutFormat.{Left, afterAll, leftBy}
 use Rattle.board.specs.Promise.{Calls}
-use Rattle.board.specs.Counts.{Apart, OtherCounts}
+use Rattle.board.specs.Counts.{Apart, OtherCounts, MalformedRead}
 use Rattle.board.proofs.Answering.{number-refused, number-accepted}
 use Rattle.board.proofs.Following.{left-by}
 
@@ -89,7 +96,7 @@ module _ {N : ℕ} {m : Machine} (p : Calls N m) (img : List ℕ) (r : Record) (
       go (inr (_, inr (_, inl (j, _)))) = absurd (subst InJob e j)
       go (inr (_, inr (_, inr (_, inl (q, _))))) = absurd (idle-mounted e q)
       go (inr (_, inr (_, inr (_, inr (_, inl (_, n)))))) = absurd (says .1 (number-refused (m img r c .answer) refusal.Stale 11 refl (omega arith) n))
-      go (inr (_, inr (_, inr (_, inr (_, inr (g, _)))))) = same-count N (r .rest .blocks) (λ d. g (λ x y. d (y .blocks-are)))
+      go (inr (_, inr (_, inr (_, inr (_, inr (g, _)))))) = same-count N (r .rest .blocks) (λ d. g (λ k. omega (arith, k .long), λ x y. d (y .blocks-are)))
 
   busy-count : (s : Stage) → r .phase ≡ Busy s → N ≡ r .rest .blocks
   busy-count s e = go (p .table img r step by)
@@ -116,19 +123,38 @@ refusal-of (Refused n) k e = (n, refl)
 
 module _ {M : ℕ} {m : Machine} (p : Calls M m) (img : List ℕ) (r : Record) (by : Bytes img)
     (d : (r .phase ≡ Unmounted → ⊥) → M ≡ r .rest .blocks → ⊥) where
+  abbrev Turned : List ℕ → ℕ → Type 0
+  Turned msg n = (n ≡ 4) ⊎ ((n ≡ 11) ⊎ ((n ≡ 1) × MalformedRead msg))
+
   -- the first line of the table that holds
   turned : (h : Host) (msg reply : List ℕ) → (k : ℕ) × (numberOf (m img r (request h msg reply) .answer) ≡ some (suc k))
-      × (r .phase ≡ Idle → h .0 ≤ 3 → (suc k ≡ 4) ⊎ (suc k ≡ 11))
+      × (r .phase ≡ Idle → h .0 ≤ 3 → Turned msg (suc k))
+  unfolding MessagesExact MalformedExact ReadKindExact
   turned h msg reply = go (p .table img r (request h msg reply) by)
     where
+      -- of another kind it gets 11
+      kind : (r .phase ≡ Unmounted → ⊥) → ((ReadKind msg → ⊥) × ((x : Journal) → Fresh M img r x → ⊥) → ⊥) → ReadKind msg
+      kind q g =
+          on-test (ofReadKind msg) (read-kind-exact msg .0)
+          (λ t. absurd (g (λ k. clash (ofReadKind msg) (read-kind-exact msg .1 k) t, λ x y. d q (y .blocks-are))))
+
+      lost : (r .phase ≡ Unmounted → ⊥) → ReadKind msg → (((s : Request) → Means msg s → ⊥) → ⊥) → (PlaceLost (asking M img r h msg reply) → ⊥)
+          → (s : Parsed) → parse msg ≡ s → ⊥
+      lost q k f g Malformed e = f (malformed-exact msg .0 e)
+      lost q k f g (Is s) e =
+          let w : Means msg s = messages-exact msg s .0 e in
+          g (record { id = idIn msg; is-asked = subst (Means msg) (read-asked msg s w k) w; misfits = inr (inl (d q)) })
+
       go : Exactly (requestLines (asking M img r h msg reply)) (m img r (request h msg reply) .answer)
-          → (k : ℕ) × (numberOf (m img r (request h msg reply) .answer) ≡ some (suc k)) × (r .phase ≡ Idle → h .0 ≤ 3 → (suc k ≡ 4) ⊎ (suc k ≡ 11))
+          → (k : ℕ) × (numberOf (m img r (request h msg reply) .answer) ≡ some (suc k)) × (r .phase ≡ Idle → h .0 ≤ 3 → Turned msg (suc k))
       go (inl (_, e)) = (3, e, λ i l. inl refl)
       go (inr (_, inl (g, e))) = (9, e, λ i l. absurd (omega arith))
       go (inr (_, inr (_, inl (j, e)))) = (4, e, λ i l. absurd (subst InJob i j))
       go (inr (_, inr (_, inr (_, inl (q, e))))) = (1, e, λ i l. absurd (idle-mounted i q))
-      go (inr (_, inr (_, inr (_, inr (_, inl (_, e)))))) = (10, e, λ i l. inr refl)
-      go (inr (_, inr (_, inr (_, inr (q, inr (g, _)))))) = absurd (g (λ x y. d q (y .blocks-are)))
+      go (inr (_, inr (_, inr (_, inr (_, inl (_, e)))))) = (10, e, λ i l. inr (inl refl))
+      go (inr (_, inr (_, inr (_, inr (q, inr (g, inl (f, e))))))) = (0, e, λ i l. inr (inr (refl, (kind q g, f))))
+      go (inr (_, inr (_, inr (_, inr (_, inr (_, inr (_, inl (_, e)))))))) = (10, e, λ i l. inr (inl refl))
+      go (inr (_, inr (_, inr (_, inr (q, inr (g, inr (f, inr (w, _)))))))) = absurd (lost q (kind q g) f w (parse msg) refl)
 
   stale : InJob (r .phase) → m img r step ≡ out (Refused refusal.Stale) img r []
   stale j = p .untouched img r step refusal.Stale (go (r .phase) refl j (p .table img r step by))
@@ -151,10 +177,12 @@ module _ {M : ℕ} {m : Machine} (p : Calls M m) (img : List ℕ) (r : Record) (
         number = λ h msg reply i l. number h msg reply (turned h msg reply .2 i l);
       }
     where
-      number : (h : Host) (msg reply : List ℕ) → (suc (turned h msg reply .0) ≡ 4) ⊎ (suc (turned h msg reply .0) ≡ 11)
-          → (numberOf (m img r (request h msg reply) .answer) ≡ some 4) ⊎ (numberOf (m img r (request h msg reply) .answer) ≡ some 11)
+      number : (h : Host) (msg reply : List ℕ) → Turned msg (suc (turned h msg reply .0))
+          → (numberOf (m img r (request h msg reply) .answer) ≡ some 4) ⊎ ((numberOf (m img r (request h msg reply) .answer) ≡ some 11)
+          ⊎ ((numberOf (m img r (request h msg reply) .answer) ≡ some 1) × MalformedRead msg))
       number h msg reply (inl e) = inl (turned h msg reply .1 ∙ ap some e)
-      number h msg reply (inr e) = inr (turned h msg reply .1 ∙ ap some e)
+      number h msg reply (inr (inl e)) = inr (inl (turned h msg reply .1 ∙ ap some e))
+      number h msg reply (inr (inr (e, w))) = inr (inr (turned h msg reply .1 ∙ ap some e, w))
 
 -- ---- of every store that keeps the promise
 

@@ -21,7 +21,7 @@ use Rattle.journal.proofs.Room.{used-kept, kept-none}
 use Rattle.board.specs.declared.Rest.{Rest}
 use Rattle.board.specs.declared.Record.{Record}
 use Rattle.board.specs.Record.{landing, idle}
-use Rattle.board.specs.Mount.{replayOf, endOf}
+use Rattle.board.specs.Mount.{replayOf, endOf, placesIn}
 use Rattle.board.specs.Plan.{onBlock}
 use Rattle.board.specs.Claim.{Track}
 use Rattle.board.proofs.Images.{Sized, sized-as, sized-block, length-all-steps, block-writes, other-writes}
@@ -53,7 +53,7 @@ Roomy s ed st = claimed ed st + endLen ed * openHosts (st .pending) ≤ s
 
 pub alone-after : {N : ℕ} {s k : ℕ} {img : List ℕ} {w : Journal} (z : Rest) (st : State) → Alone N s img k w → w .tail ≡ clean → z .blocks ≡ N
     → length img ≡ suc (z .last) → replayOf w ≡ st → z .pending ≡ countsIn (w .edition) st → Roomy s (w .edition) st
-    → After N s (w .edition) img (idle (landing z (editionNumber (w .edition)) k (endOf w))) st
+    → After N s (w .edition) img (idle (placesIn w) (landing z (editionNumber (w .edition)) k (endOf w))) st
 alone-after {N} {s} {k} {img} {w} z st x c blocks long e counts room =
     record {
       ready = record {

@@ -5,13 +5,10 @@ use mathlib.Core.Logic.{_⊎_, inl, inr}
 use mathlib.Core.Option.{some}
 use Prim.Native.Nat.{ℕ, _+_, _*_, _≤_, _<_}
 use native.Mathlib.Omega.{arith}
-use lib.Dec.{ltb}
-use lib.ListN.{length, getD, drop, length-take, List·getD-eq-default}
+use lib.ListN.{length, getD, drop, length-take}
 use lib.Seq.{getD-take, getD-drop}
-use borrow.Author.Tests.{ltb-true, ltb-false}
 use Rattle.flash.specs.Bytes.{Bytes}
 use Rattle.flash.specs.Flash.{Step, program, erase, apply, applyAll, block, sizeOf, withBlock, write, programAt}
-use Rattle.flash.proofs.Cases.{on-test}
 use Rattle.flash.proofs.Image.{length-apply, bytes-apply, block-program}
 use Rattle.flash.proofs.Raising.{length-with, bytes-with}
 use Rattle.frame.specs.declared.Edition.the-variants as edition
@@ -22,6 +19,7 @@ use Rattle.journal.proofs.Building as building
 use Rattle.wire.specs.declared.Answer.{Answer}
 use Rattle.wire.specs.declared.Answer.the-variants.{Done, More, Refused}
 use Rattle.wire.specs.Answer.{numberOf}
+use Rattle.board.proofs.TablingReads.{never-lost}
 use Rattle.board.specs.declared.Phase.{Phase}
 use Rattle.board.specs.declared.Phase.the-variants.{Unmounted, Idle, Busy}
 use Rattle.board.specs.declared.Record.{Record}
@@ -262,8 +260,12 @@ request-fits {N} {s} {img} {r} v h m reply e = go (request-lines (asking N img r
     go (inr (_, inl (_, f))) = other-number a 10 11 (omega arith) f e
     go (inr (_, inr (_, inl (_, f)))) = other-number a 5 11 (omega arith) f e
     go (inr (_, inr (_, inr (_, inl (_, f))))) = other-number a 2 11 (omega arith) f e
-    go (inr (_, inr (_, inr (u, inr (w, inl (f, _)))))) = fits (r .phase) (v .phase) u w f
-    go (inr (_, inr (_, inr (_, inr (_, inr (_, x)))))) = not-numbered 10 (drop 5 (requestLines (asking N img r h m reply))) a (omega arith) x e
+    go (inr (_, inr (_, inr (u, inr (w, inl (f, _)))))) = fits (r .phase) (v .phase) u w (f .1)
+    go (inr (_, inr (_, inr (_, inr (_, inr (_, inl (_, f))))))) = other-number a 1 11 (omega arith) f e
+    go (inr (_, inr (_, inr (u, inr (w, inr (_, inr (_, inl (l, _)))))))) =
+        fits (r .phase) (v .phase) u w (λ x y. never-lost (asking N img r h m reply) x (v .bytes) (v .sized .ok) y l)
+    go (inr (_, inr (_, inr (_, inr (_, inr (_, inr (_, inr (_, x)))))))) =
+        not-numbered 10 (drop 7 (requestLines (asking N img r h m reply))) a (omega arith) x e
 
 step-fits : {N : ℕ} {s : ℕ} {img : List ℕ} {r : Record} → Steady N s img r → NotStale (stepOn N img r)
 step-fits {N} {s} {img} {r} v = go (r .phase) refl (v .phase)

@@ -18,9 +18,13 @@ use Rattle.wire.specs.declared.Answer.the-variants.{Done, More, Refused}
 use Rattle.wire.specs.declared.Request.{Request}
 use Rattle.wire.specs.declared.Parsed.{Parsed}
 use Rattle.wire.specs.declared.Parsed.the-variants.{Is, Malformed}
-use Rattle.wire.specs.Message.{parse}
-use Rattle.wire.specs.Sentences.{Means, MessagesExact, MalformedExact}
-use Rattle.wire.proofs.Sentences.{messages-exact, malformed-exact}
+use Rattle.wire.specs.Message.{parse, ofReadKind, idIn}
+use Rattle.wire.specs.Sentences.{Means, MessagesExact, MalformedExact, ReadKind, ReadKindExact}
+use Rattle.wire.proofs.Sentences.{messages-exact, malformed-exact, read-kind-exact, read-asked}
+use Rattle.wire.specs.declared.Request.the-variants.{Read}
+use Rattle.frame.specs.declared.ObjectId.{ObjectId}
+use Rattle.board.proofs.ReadsLocal.{one-stretch}
+use Rattle.flash.proofs.Cases.{on-test, clash}
 use Rattle.board.specs.declared.Stage.{Stage}
 use Rattle.board.specs.declared.Phase.{Phase}
 use Rattle.board.specs.declared.Phase.the-variants.{Unmounted, Idle, Busy}
@@ -37,7 +41,7 @@ use Rattle.board.specs.Demand1.{Rests}
 use Rattle.board.specs.Demand2.{Accepted}
 use Rattle.board.specs.Claim.{ByteCall, Begins, Event, call, cutErase}
 use Rattle.board.specs.Promise.{Machine, replyFor, Answers, Serves, Job, frame-job, mount-job, format-job, Calls, Shown}
-use Rattle.board.specs.Promise.{shown, trace, ByteEvents, PromiseDetermines, PromiseDeterminesFrom, PromiseDeterminesCall, convert-job}
+use Rattle.board.specs.Promise.{shown, trace, ByteEvents, PromiseDetermines, PromiseDeterminesFrom, PromiseDeterminesCall, convert-job, HandsPlace}
 use Rattle.board.proofs.Lengths.{frame-cases}
 use Rattle.board.proofs.Answering.{number-done, number-accepted, Both, both-taken, both-refused, same-numbered, told-answer}
 use Rattle.board.proofs.Answering.{whole-is, in-job, same-stretch}
@@ -74,24 +78,41 @@ pub record Asked (N : ℕ) (img : List ℕ) (r : Record) (msg : List ℕ) : Type
   pub is-asked : Means msg asked
 
 module _ {N : ℕ} {m : Machine} (p : Calls N m) (img : List ℕ) (by : Bytes img) where
-  pub request-asks : (r : Record) (h : Host) (msg reply : List ℕ) → Accepted (m img r (request h msg reply) .answer) → Asked N img r msg
-  unfolding FreshExact MessagesExact MalformedExact
-  request-asks r h msg reply a = go (p .table img r (request h msg reply) by)
+  -- an accepted request's message means one
+  pub request-means : (r : Record) (h : Host) (msg reply : List ℕ) → Accepted (m img r (request h msg reply) .answer) → (q : Request) × Means msg q
+  unfolding MessagesExact MalformedExact
+  request-means r h msg reply a = go (p .table img r (request h msg reply) by)
     where
       ans : Answer
       ans = m img r (request h msg reply) .answer
 
-      parsed : (ok : allowed N (length img) ≡ true) (x : Journal) → held N img r ≡ some x → (((q : Request) → Means msg q → ⊥) → ⊥) → (w : Parsed)
-          → parse msg ≡ w → Asked N img r msg
-      parsed ok x e g Malformed w = absurd (g (malformed-exact msg .0 w))
-      parsed ok x e g (Is q) w =
-          record { length-ok = ok; holding = x; asked = q; is-held = fresh-exact N img r x by ok .0 e; is-asked = messages-exact msg q .0 w }
+      parsed : (((q : Request) → Means msg q → ⊥) → ⊥) → (w : Parsed) → parse msg ≡ w → (q : Request) × Means msg q
+      parsed g Malformed w = absurd (g (malformed-exact msg .0 w))
+      parsed g (Is q) w = (q, messages-exact msg q .0 w)
 
-      found : (ok : allowed N (length img) ≡ true) → (((x : Journal) → Fresh N img r x → ⊥) → ⊥) → (((q : Request) → Means msg q → ⊥) → ⊥)
-          → (o : Option Journal) → held N img r ≡ o → Asked N img r msg
-      found ok f g none e =
-          absurd (f (λ x y. let w : some x ≡ none = sym (fresh-exact N img r x by ok .1 y) ∙ e in let z : _≡_ {A = ℕ} 0 1 = cc in omega arith))
-      found ok f g (some x) e = parsed ok x e g (parse msg) refl
+      go : Exactly (requestLines (asking N img r h msg reply)) ans → (q : Request) × Means msg q
+      go (inl (_, e)) = absurd (number-accepted ans 3 e a)
+      go (inr (_, inl (_, e))) = absurd (number-accepted ans 9 e a)
+      go (inr (_, inr (_, inl (_, e)))) = absurd (number-accepted ans 4 e a)
+      go (inr (_, inr (_, inr (_, inl (_, e))))) = absurd (number-accepted ans 1 e a)
+      go (inr (_, inr (_, inr (_, inr (_, inl (_, e)))))) = absurd (number-accepted ans 10 e a)
+      go (inr (_, inr (_, inr (_, inr (_, inr (_, inl (_, e))))))) = absurd (number-accepted ans 0 e a)
+      go (inr (_, inr (_, inr (_, inr (_, inr (_, inr (g, _))))))) = parsed g (parse msg) refl
+
+  -- and an image that can be told, but for a read
+  pub request-asks : (r : Record) (h : Host) (msg reply : List ℕ) → (ReadKind msg → ⊥) → Accepted (m img r (request h msg reply) .answer) → Asked N img r msg
+  unfolding FreshExact
+  request-asks r h msg reply k a = go (p .table img r (request h msg reply) by)
+    where
+      ans : Answer
+      ans = m img r (request h msg reply) .answer
+
+      found : (ok : allowed N (length img) ≡ true) → ((ReadKind msg → ⊥) × ((x : Journal) → Fresh N img r x → ⊥) → ⊥)
+          → (o : Option Journal) → held N img r ≡ o → (q : Request) × Means msg q → Asked N img r msg
+      found ok f none e w =
+          absurd (f (k, λ x y. let w : some x ≡ none = sym (fresh-exact N img r x by ok .1 y) ∙ e in let z : _≡_ {A = ℕ} 0 1 = cc in omega arith))
+      found ok f (some x) e w =
+          record { length-ok = ok; holding = x; asked = w .0; is-held = fresh-exact N img r x by ok .0 e; is-asked = w .1 }
 
       go : Exactly (requestLines (asking N img r h msg reply)) ans → Asked N img r msg
       go (inl (_, e)) = absurd (number-accepted ans 3 e a)
@@ -99,8 +120,32 @@ module _ {N : ℕ} {m : Machine} (p : Calls N m) (img : List ℕ) (by : Bytes im
       go (inr (_, inr (_, inl (_, e)))) = absurd (number-accepted ans 4 e a)
       go (inr (_, inr (_, inr (_, inl (_, e))))) = absurd (number-accepted ans 1 e a)
       go (inr (_, inr (_, inr (_, inr (_, inl (_, e)))))) = absurd (number-accepted ans 10 e a)
-      go (inr (_, inr (_, inr (_, inr (_, inr (_, inl (_, e))))))) = absurd (number-accepted ans 0 e a)
-      go (inr (l, inr (_, inr (_, inr (_, inr (f, inr (g, _))))))) = found (allowed-not N (length img) l) f g (held N img r) refl
+      go (inr (l, inr (_, inr (_, inr (_, inr (f, _)))))) = found (allowed-not N (length img) l) f (held N img r) refl (request-means r h msg reply a)
+
+  -- a read hands back the frame at its place
+  pub read-hands : (r : Record) (h : Host) (msg reply : List ℕ) → Bytes msg → ReadKind msg → Accepted (m img r (request h msg reply) .answer)
+      → (i : ObjectId) × Means msg (Read i) × HandsPlace (asking N img r h msg reply) i (m img r (request h msg reply))
+  read-hands r h msg reply bm k a =
+      let w = request-means r h msg reply a in
+      let means : Means msg (Read (idIn msg)) = subst (Means msg) (read-asked msg (w .0) (w .1) k) (w .1) in
+      (idIn msg, means, p .reads img r h msg reply (idIn msg) by bm means a)
+
+  pub kind-cases : {P : Type 0} (msg : List ℕ) → (ReadKind msg → P) → ((ReadKind msg → ⊥) → P) → P
+  unfolding ReadKindExact
+  kind-cases msg f g =
+      on-test (ofReadKind msg) (λ t. f (read-kind-exact msg .0 t)) (λ t. g (λ k. clash (ofReadKind msg) (read-kind-exact msg .1 k) t))
+
+  -- where a job began
+  pub more-asks : (r : Record) (h : Host) (msg reply : List ℕ) → Bytes msg → m img r (request h msg reply) .answer ≡ More → Asked N img r msg
+  more-asks r h msg reply bm e =
+      let a : Accepted (m img r (request h msg reply) .answer) = subst Accepted (sym e) tt in
+      kind-cases msg
+      (λ k.
+      let y = read-hands r h msg reply bm k a in
+      let w : Done ≡ More = sym (number-done (m img r (request h msg reply) .answer) (y .2 .answers)) ∙ e in
+      let z : _≡_ {A = ℕ} 0 1 = cc in
+      absurd (omega arith))
+      (λ k. request-asks r h msg reply k a)
 
   -- an accepted mount has a current half to take
   pub mount-takes : (r : Record) → Accepted (m img r mount .answer) → Mountable N img
@@ -176,12 +221,19 @@ module _ {N : ℕ} {m n : Machine} (pm : Calls N m) (pn : Calls N n) (img : List
       p : Out
       p = n img r c
 
-      go : Both (o .answer) (p .answer) → Agree N m n o p
-      go (both-refused w e f) =
-          agree-by (pm .untouched img r c w e) (pn .untouched img r c w f)
-          (agree-whole (Refused w) (Refused w) img r r reply noStretch refl by (resting k refl))
-      go (both-taken a b) =
-          let y : Asked N img r msg = request-asks pm img by r h msg reply a in
+      read : Accepted (o .answer) → Accepted (p .answer) → ReadKind msg → Agree N m n o p
+      read a b g =
+          let w : Asking = asking N img r h msg reply in
+          let x = read-hands pm img by r h msg reply bm g a in
+          let s : HandsPlace w (x .0) o = x .2 in
+          let t : HandsPlace w (x .0) p = pn .reads img r h msg reply (x .0) by bm (x .1) b in
+          agree-by (whole-is o (number-done (o .answer) (s .answers)) (pm .one-step img r c) (s .board) (s .writes) refl)
+          (whole-is p (number-done (p .answer) (t .answers)) (pn .one-step img r c) (t .board) (t .writes) (one-stretch w (x .0) p o t s))
+          (agree-whole Done Done img r r reply (o .stretch) refl by (resting k refl))
+
+      other : Accepted (o .answer) → Accepted (p .answer) → (ReadKind msg → ⊥) → Agree N m n o p
+      other a b g =
+          let y : Asked N img r msg = request-asks pm img by r h msg reply g a in
           let x : Journal = y .holding in
           let q : Request = y .asked in
           let w : Asking = asking N img r h msg reply in
@@ -195,6 +247,12 @@ module _ {N : ℕ} {m n : Machine} (pm : Calls N m) (pn : Calls N n) (img : List
           ] in
           does-agree w x q (taskFor h msg x q) o p k (pm .one-step img r c) (pn .one-step img r c) (s .answers) (t .answers) s t
           (λ n. let j = job (taskFor h msg x q) refl n in job-alike r r c (j .0) bm (j .1) (j .1) a b)
+
+      go : Both (o .answer) (p .answer) → Agree N m n o p
+      go (both-refused w e f) =
+          agree-by (pm .untouched img r c w e) (pn .untouched img r c w f)
+          (agree-whole (Refused w) (Refused w) img r r reply noStretch refl by (resting k refl))
+      go (both-taken a b) = kind-cases pm img by msg (read a b) (other a b)
 
   -- 4, 10 or 5, whatever the record holds
   abbrev pub busyLines : Host → List Line

@@ -26,7 +26,7 @@ use Rattle.board.specs.Demand2.{Accepted}
 use Rattle.board.specs.Claim.{Finishes, begunBy, ByteCall, Begins}
 use Rattle.board.specs.Promise.{Answers, Job, frame-job, mount-job, format-job, Calls, convert-job}
 use Rattle.board.proofs.TablingMounts.{Mountable}
-use Rattle.board.proofs.Determining.{job-idle, Asked, request-asks, mount-takes}
+use Rattle.board.proofs.Determining.{job-idle, Asked, mount-takes, more-asks}
 
 -- if the record is in a job, which call a began
 abbrev pub Ends : ℕ → Machine → Call → List ℕ → Record → Type 0
@@ -64,7 +64,7 @@ module _ {N : ℕ} {m : Machine} (p : Calls N m) (img : List ℕ) (by : Bytes im
       a = subst Accepted (sym e) tt
 
       y : Asked N img r msg
-      y = request-asks p img by r h msg reply (subst Accepted (sym e) tt)
+      y = more-asks p img by r h msg reply bm e
 
       x : Journal
       x = y .holding

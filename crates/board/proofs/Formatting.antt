@@ -17,13 +17,15 @@ use Rattle.flash.proofs.Offsets.{Below}
 use Rattle.frame.specs.Frame.{Frame, total, encodeAll, AllMayStand, nextOf}
 use Rattle.frame.specs.Reader.{clean}
 use Rattle.frame.proofs.Scanning.{scan-blank}
-use Rattle.journal.specs.Replay.{Object, state, replayFrom, isOpen}
+use Rattle.journal.specs.Replay.{Object, state, replayFrom, isOpen, lookup}
 use Rattle.journal.specs.Block.{headerLen, lastTime, BlockState, valid, blockState, build, journal}
 use Rattle.journal.proofs.Blocks.{Layout}
 use Rattle.journal.proofs.States.{Contents, contents-valid}
 use Rattle.journal.proofs.Raising.{harmless-older}
 use Rattle.journal.proofs.Building.{Lands, below-build, made, making, lands}
 use Rattle.journal.proofs.PerHost.{counts-none}
+use Rattle.journal.specs.Index.{sited, placesFrom, placesOf}
+use Rattle.board.specs.Record.{noPlaces, idle}
 use Rattle.board.specs.Mount.{numbersBut, formatOrder}
 use Rattle.board.specs.Plan.{onBlock, formatWork}
 use Rattle.board.specs.CutFormat.{Beside}
@@ -82,6 +84,16 @@ erases-empty [] img z b q j h = absurd (omega arith)
 erases-empty (k ∷ ks) img z b q zero h = q
 erases-empty {N} {s} (k ∷ ks) img z (l, b) q (suc j) h =
     erases-empty ks (eraseBlock s k img) (sized-erase z k l) b (λ i g. quiet-erase z k l i (λ n. q i g)) j (omega arith)
+
+-- no frame, no place
+zeros-from : (n k : ℕ) → placesFrom n k [] ≡ replicate n 0
+unfolding placesFrom lookup
+zeros-from zero k = refl
+zeros-from (suc n) k = ap (λ (ps : List ℕ). 0 ∷ ps) (zeros-from n (suc k))
+
+pub none-placed : placesOf edition.First [] ≡ noPlaces
+unfolding sited replayFrom noPlaces
+none-placed = zeros-from 256 0
 
 module _ {N : ℕ} {s : ℕ} {img : List ℕ} (z : Sized N s img) where
   -- the image with every block erased
@@ -164,8 +176,9 @@ module _ {N : ℕ} {s : ℕ} {img : List ℕ} (z : Sized N s img) where
   pub format-ends : After N s edition.First (applyAll s (formatWork N img .steps) img) (formatWork N img .last) (state [] [])
   unfolding total replayFrom isOpen
   format-ends =
-      alone-after (formatWork N img .last .rest) (state [] []) format-alone refl refl
-      (length-all-steps s (formatWork N img .steps) img ∙ sized-last z) refl (sym (counts-none edition.First [])) (omega (arith, z .low))
+      subst (λ (ps : List ℕ). After N s edition.First (applyAll s (formatWork N img .steps) img) (idle ps (formatWork N img .last .rest)) (state [] [])) none-placed
+      (alone-after (formatWork N img .last .rest) (state [] []) format-alone refl refl
+      (length-all-steps s (formatWork N img .steps) img ∙ sized-last z) refl (sym (counts-none edition.First [])) (omega (arith, z .low)))
 
 -- "On an image the store left, a cut format leaves the old settled objects, no store, or the empty store": after j of the steps.
 -- A mount finds the objects where an image is safe and no format is unfinished.

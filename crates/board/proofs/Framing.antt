@@ -19,16 +19,16 @@ use Rattle.journal.proofs.Room.{frames-total}
 use Rattle.board.specs.declared.Rest.{Rest}
 use Rattle.board.specs.declared.Record.{Record}
 use Rattle.board.specs.Record.{landing, ending, idle}
-use Rattle.board.specs.Mount.{nextBlock, endOf, replayOf, claimedOf}
+use Rattle.board.specs.Mount.{nextBlock, endOf, replayOf, claimedOf, placesIn}
 use Rattle.board.specs.Queue.{needsRoom, counted}
-use Rattle.board.specs.Plan.{transferPlan, appendPlan, Work, appendWork, movedWork, frameWork}
+use Rattle.board.specs.Plan.{transferPlan, appendPlan, Work, stayedWork, movedWork, frameWork}
 use Rattle.board.specs.Claim.{Track}
 use Rattle.board.proofs.Images.{Sized, size-of, apply-append, length-all-steps}
 use Rattle.board.proofs.Invariant.{StepLands, Guard, Ready}
 use Rattle.board.proofs.Lengths.{frame-cases}
 use Rattle.board.proofs.Prefixes.{Each, each-append}
 use Rattle.board.proofs.Current.{Alone, After, Roomy, Keeps, ready-alone}
-use Rattle.board.proofs.Appending.{Fits, append-lands, append-guard, append-ends}
+use Rattle.board.proofs.Appending.{Fits, append-lands, append-guard, append-ends, with-frame}
 use Rattle.board.proofs.Transferring.{next-journal, Moves, transfer-lands, transfer-guard, transfer-alone}
 
 -- the image is as an idle record says, and what its block holds is this
@@ -120,15 +120,16 @@ module _ {N : ℕ} {s : ℕ} {img : List ℕ} {r : Record} {x : Journal} {f : Fr
       counts = ap (countsIn ed) (replay-snoc (x .frames) f)
 
       -- the record's edition is the journal's
-      there : (i : List ℕ) (k e : ℕ) (t : State) → After N s ed i (idle (landing z (editionNumber ed) k e)) t
-          → After N s ed i (idle (landing z (z .edition) k e)) t
-      there i k e t = subst (λ (n : ℕ). After N s ed i (idle (landing z n k e)) t) (sym (h .edition-is))
+      there : (i ps : List ℕ) (k e : ℕ) (t : State) → After N s ed i (idle ps (landing z (editionNumber ed) k e)) t
+          → After N s ed i (idle ps (landing z (z .edition) k e)) t
+      there i ps k e t = subst (λ (n : ℕ). After N s ed i (idle ps (landing z n k e)) t) (sym (h .edition-is))
 
-      stayed : needsRoom N img r x f ≡ false → After N s ed (applyAll s (appendWork ed z f .steps) img) (appendWork ed z f .last) (nextState st f)
+      stayed : needsRoom N img r x f ≡ false → After N s ed (applyAll s (stayedWork z x f .steps) img) (stayedWork z x f .last) (nextState st f)
       stayed e =
-          subst (λ (n : ℕ). After N s ed (applyAll s (appendPlan ed (r .rest .block) n f) img) (idle (ending z (n + frameLen ed f))) (nextState st f))
+          subst (λ (n : ℕ). After N s ed (applyAll s (appendPlan ed (r .rest .block) n f) img)
+          (idle (placesIn (with-frame x f)) (ending z (n + frameLen ed f))) (nextState st f))
           (h .ends)
-          (there (applyAll s (appendPlan ed (r .rest .block) (endOf x) f) img) (r .rest .block) (endOf x + frameLen ed f) (nextState st f)
+          (there (applyAll s (appendPlan ed (r .rest .block) (endOf x) f) img) (placesIn (with-frame x f)) (r .rest .block) (endOf x + frameLen ed f) (nextState st f)
           (append-ends (h .alone) (h .is-clean) f (here e) z (h .blocks) (h .long) counts room))
 
       went : needsRoom N img r x f ≡ true
@@ -136,13 +137,14 @@ module _ {N : ℕ} {s : ℕ} {img : List ℕ} {r : Record} {x : Journal} {f : Fr
       went e =
           let k : ℕ = nextBlock N (r .rest .block) in
           let long : length moved ≡ suc (r .rest .last) = length-all-steps s (transferPlan ed N (r .rest .block) x st) img ∙ h .long in
-          subst (λ (i : List ℕ). After N s ed i (idle (landing z (z .edition) k (claimed ed st + frameLen ed f))) (nextState st f))
+          let placed : List ℕ = placesIn (with-frame (next-journal ed x st) f) in
+          subst (λ (i : List ℕ). After N s ed i (idle placed (landing z (z .edition) k (claimed ed st + frameLen ed f))) (nextState st f))
           (sym (apply-append s (transferPlan ed N (r .rest .block) x st) (appendPlan ed k (claimed ed st) f) img))
           (subst₂ (λ (n : ℕ) (w : State). After N s ed (applyAll s (appendPlan ed k n f) moved)
-          (idle (landing z (z .edition) k (n + frameLen ed f))) (nextState w f))
+          (idle placed (landing z (z .edition) k (n + frameLen ed f))) (nextState w f))
           (frames-total ed st)
           (replay-framesOf st)
-          (there (applyAll s (appendPlan ed k (endOf (next-journal ed x st)) f) moved) k (endOf (next-journal ed x st) + frameLen ed f)
+          (there (applyAll s (appendPlan ed k (endOf (next-journal ed x st)) f) moved) placed k (endOf (next-journal ed x st) + frameLen ed f)
           (nextState (replayOf (next-journal ed x st)) f)
           (append-ends (new e) refl f after z (h .blocks) long (counts ∙ ap (λ (w : State). countsIn ed (nextState w f)) (sym (replay-framesOf st)))
           (subst (λ (w : State). Roomy s ed (nextState w f)) (sym (replay-framesOf st)) room))))

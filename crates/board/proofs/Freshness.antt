@@ -19,7 +19,8 @@ use Rattle.journal.specs.Block.{Journal, BlockState, valid, blockState, headerL
 use Rattle.journal.specs.Sentences.{BlankBlock}
 use Rattle.journal.specs.Room.{openHosts}
 use Rattle.journal.proofs.Sentences.{states-exact}
-use Rattle.journal.specs.Laws.{CountsAre}
+use Rattle.journal.specs.Laws.{CountsAre, PlacesAre}
+use Rattle.journal.proofs.Sources.{place-exact}
 use Rattle.journal.proofs.ReplayLaws.{pending-exact}
 use Rattle.board.specs.declared.Record.{Record}
 use Rattle.board.specs.Record.{allowed, idle}
@@ -39,11 +40,11 @@ blank-means : (l : List ℕ) → Blank l → allFF l ≡ true
 blank-means l e = is-ff l e
 
 held-here : (N : ℕ) (img : List ℕ) (r : Record) (x : Journal) → sameImage N img r ≡ true
-    → blockState (block (sizeOf N img) (r .rest .block) img) ≡ valid x → x .tail ≡ clean → fitsRecord (sizeOf N img) (r .rest) x ≡ true
+    → blockState (block (sizeOf N img) (r .rest .block) img) ≡ valid x → x .tail ≡ clean → fitsRecord (sizeOf N img) r x ≡ true
     → held N img r ≡ some x
 unfolding held
 held-here N img r x a v c f =
-    ap (λ (b : Bool). heldBy N b img r) a ∙ ap (λ (b : BlockState). heldIn (sizeOf N img) (r .rest) b) v
+    ap (λ (b : Bool). heldBy N b img r) a ∙ ap (λ (b : BlockState). heldIn (sizeOf N img) r b) v
     ∙ ap₂ (λ (b : Bool) (c : Tail). heldIf b c x) f c
 
 module _ (N : ℕ) (img : List ℕ) (r : Record) (x : Journal) (by : Bytes img) (ok : allowed N (length img) ≡ true) where
@@ -58,14 +59,14 @@ module _ (N : ℕ) (img : List ℕ) (r : Record) (x : Journal) (by : Bytes img) 
 
   held-fresh : held N img r ≡ some x → Fresh N img r x
   held-fresh e =
-      let v : (w : Ready N s img (idle (r .rest))) × (w .journal ≡ x) = held-inv r sized by e in
+      let v : (w : Ready N s img (idle (r .places) (r .rest))) × (w .journal ≡ x) = held-inv r sized by e in
       let p : Passed N s img r x = passed sized e in
       let beside : Bool = ltb (r .rest .block) N && othersBlank N (r .rest .block) img (blockNumbers N) in
       let shape : sameShape N (length img) r ≡ true = and-left (sameShape N (length img) r) beside (p .same) in
       let rest : beside ≡ true = and-right (sameShape N (length img) r) beside (p .same) in
       let there : r .rest .block < N =
       ltb-true (r .rest .block) N (and-left (ltb (r .rest .block) N) (othersBlank N (r .rest .block) img (blockNumbers N)) rest) in
-      let f : RecordFits s (r .rest) x = record-fits (p .fits) in
+      let f : RecordFits s r x = record-fits (p .fits) in
       record {
         length-is = eqb-true (length img) (suc (r .rest .last)) (and-left (eqb (length img) (suc (r .rest .last))) (eqb N (r .rest .blocks)) shape);
         blocks-are = eqb-true N (r .rest .blocks) (and-right (eqb (length img) (suc (r .rest .last))) (eqb N (r .rest .blocks)) shape);
@@ -77,6 +78,7 @@ module _ (N : ℕ) (img : List ℕ) (r : Record) (x : Journal) (by : Bytes img) 
         ends = f .ends;
         pending = subst (λ (ps : List ℕ). CountsAre (x .edition) ps (x .frames)) (f .counts) (pending-exact .are (x .edition) (x .frames));
         edition-is = sym (f .edition-is) ∙ number-is (x .edition);
+        places = subst (λ (ps : List ℕ). PlacesAre (x .edition) ps (x .frames)) (f .places) (place-exact .places-are (x .edition) (x .frames));
         others-blank = λ j h n. blank-there j h n (othersOf (v .0) j h n);
         room = subst (λ (n : ℕ). claimedOf x + n * openHosts (replayOf x .pending) ≤ s) (end-is (x .edition)) (f .room);
       }
@@ -84,7 +86,7 @@ module _ (N : ℕ) (img : List ℕ) (r : Record) (x : Journal) (by : Bytes img) 
       blank-there : (j : ℕ) → j < N → (j ≡ r .rest .block → ⊥) → block s j img ≡ replicate s 255 → BlankBlock (block s j img)
       blank-there j h n e = e ∙ ap (λ (w : ℕ). replicate w 255) (sym (length-block s j img (sized-block j sized h)))
 
-      othersOf : (w : Ready N s img (idle (r .rest))) (j : ℕ) → j < N → (j ≡ r .rest .block → ⊥) → block s j img ≡ replicate s 255
+      othersOf : (w : Ready N s img (idle (r .places) (r .rest))) (j : ℕ) → j < N → (j ≡ r .rest .block → ⊥) → block s j img ≡ replicate s 255
       othersOf w j h n = w .others j h (λ e. n (e ∙ sym (ap (λ (q : Record). q .rest .block) (w .is))))
 
   fresh-held : Fresh N img r x → held N img r ≡ some x
@@ -103,6 +105,7 @@ module _ (N : ℕ) (img : List ℕ) (r : Record) (x : Journal) (by : Bytes img) 
         ends = y .ends;
         counts = sym (pending-exact .only (x .edition) (r .rest .pending) (x .frames) (y .pending));
         room = subst (λ (n : ℕ). claimedOf x + n * openHosts (replayOf x .pending) ≤ s) (sym (end-is (x .edition))) (y .room);
+        places = sym (place-exact .places-only (x .edition) (r .places) (x .frames) (y .places));
       }))
 
 pub fresh-exact : FreshExact

@@ -25,7 +25,7 @@ use Rattle.board.specs.declared.Phase.the-variants.{Unmounted, Idle, Bus
 use Rattle.board.specs.declared.Rest.{Rest}
 use Rattle.board.specs.declared.Record.{Record}
 use Rattle.board.specs.Record.{idle}
-use Rattle.board.specs.Mount.{replayOf, endOf, countsOf, claimedOf}
+use Rattle.board.specs.Mount.{replayOf, endOf, countsOf, claimedOf, placesIn}
 use Rattle.board.specs.Exec.{exec}
 use Rattle.board.specs.Plan.{Follows}
 use Rattle.board.specs.Claim.{Track, trackStep}
@@ -93,11 +93,11 @@ GuardIn N s os u w x img = Safe N s img os u × ((w ≡ formatting → ⊥) → 
 -- the image is as the record says, the book apart
 pub record Ready (N : ℕ) (s : ℕ) (img : List ℕ) (r : Record) : Type 0 where
   pub stands : Rest
-  pub is : r ≡ idle stands
+  pub journal : Journal
+  pub is : r ≡ idle (placesIn journal) stands
   pub blocks : stands .blocks ≡ N
   pub long : length img ≡ suc (stands .last)
   pub there : stands .block < N
-  pub journal : Journal
   pub contents : Contents (block s (stands .block) img) journal
   pub is-clean : journal .tail ≡ clean
   pub ends : stands .end ≡ endOf journal

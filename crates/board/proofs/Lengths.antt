@@ -22,7 +22,7 @@ use Rattle.journal.proofs.Building.{length-build}
 use Rattle.board.specs.declared.Rest.{Rest}
 use Rattle.board.specs.Mount.{Store, storeAt, Upkeep, rests, mends, moves, upkeep, formatOrder, replayOf, usedOf, claimedOf}
 use Rattle.board.specs.Mount.{endOf, closedEnd, closesFor, dueReset, blockIn}
-use Rattle.board.specs.Plan.{onBlock, transferTo, appendPlan, programs, Work, formatWork, mendWork, upkeepWork, mountIn, appendWork, movedWork, frameIn}
+use Rattle.board.specs.Plan.{onBlock, transferTo, appendPlan, programs, Work, formatWork, mendWork, upkeepWork, mountIn, stayedWork, movedWork, frameIn}
 use Rattle.board.proofs.Upkeep.{reset-few}
 use Rattle.board.proofs.Order.{length-order}
 
@@ -56,10 +56,10 @@ format-some N img = go (formatWork N img .steps) refl
 
 -- a frame's work, after a transfer or without one
 pub frame-cases : (Q : Work → Type 0) (s j : ℕ) (z : Rest) (x : Journal) (f : Frame) → (ltb s (z .end + frameLen (x .edition) f) ≡ true → Q (movedWork j z x f))
-    → (ltb s (z .end + frameLen (x .edition) f) ≡ false → Q (appendWork (x .edition) z f)) → Q (frameIn s j z x f)
+    → (ltb s (z .end + frameLen (x .edition) f) ≡ false → Q (stayedWork z x f)) → Q (frameIn s j z x f)
 frame-cases Q s j z x f moved stayed = go (ltb s (z .end + frameLen (x .edition) f)) refl
   where
-    go : (b : Bool) → ltb s (z .end + frameLen (x .edition) f) ≡ b → Q (cond b (movedWork j z x f) (appendWork (x .edition) z f))
+    go : (b : Bool) → ltb s (z .end + frameLen (x .edition) f) ≡ b → Q (cond b (movedWork j z x f) (stayedWork z x f))
     go true e = moved e
     go false e = stayed e
 

@@ -36,6 +36,8 @@ pub mod Framing  -- a frame appended, after a transfer or without
 pub mod Mending  -- a torn frame closed, and a reset
 pub mod Holding  -- an image that passes refusal 11
 pub mod Replies  -- what reads and the log say
+pub mod Freshness  -- refusal 11 is as document 01 words it: for the demands too
+pub mod Reading  -- reads by their places: for Requests and all below
 pub mod Books  -- the book beside replay
 pub mod Keeping  -- the invariant in each phase, and after a step
 pub mod Converting  -- a convert: for Serving, Planning, Promising
@@ -55,11 +57,12 @@ pub mod WearRuns  -- K14, erase counts of every run: to read
 -- ---- the promise
 pub mod Sentences  -- frames, plans and places, which the promise uses, are as document 01 words them
 pub mod SentencesMounts  -- and so are a mount's steps
-pub mod Freshness  -- and so is refusal 11
 pub mod Counting  -- and so are a record's pending counts after each job
 pub mod Lines  -- from tests to the table's lines: for Tabling
 pub mod TablingSteps  -- the test of a step: for Tabling
+pub mod TablingReads  -- the table's lines of a read: for Tabling, Promising
 pub mod Tabling  -- requests, steps and formats are refused by the table's lines
+pub mod ReadsLocal  -- an accepted read is of one frame: for Promising, Determining
 pub mod TablingMounts  -- mounts are
 pub mod Answering  -- answers: numbers, lines, what they tell
 pub mod Telling  -- the answer tells the record

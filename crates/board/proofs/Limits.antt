@@ -15,6 +15,8 @@ use Rattle.wire.specs.declared.Request.the-variants.{Put, Delete, Commit, Abort
 use Rattle.wire.specs.Answer.{numberOf}
 use Rattle.wire.specs.Message.{valueIn}
 use Rattle.wire.specs.Sentences.{Means}
+use Rattle.board.proofs.Reading.{one-request}
+use Rattle.board.proofs.TablingReads.{never-lost}
 use Rattle.board.specs.declared.Phase.the-variants.{Unmounted, Idle}
 use Rattle.board.specs.declared.Record.{Record}
 use Rattle.board.specs.Mount.{replayOf}
@@ -26,7 +28,7 @@ use Rattle.board.specs.Table.{requestLines}
 use Rattle.board.specs.Demand2.{Asks, RoomExact, WearExact, ShareExact}
 use Rattle.board.specs.Promise.{Calls}
 use Rattle.board.proofs.Answering.{number-accepted, other-number}
-use Rattle.board.proofs.Tabling.{is-allowed, same-request, same-held}
+use Rattle.board.proofs.Tabling.{is-allowed, same-held}
 
 -- requests that may have steps to do, and those of them that the room rule is about
 abbrev Changes : Request → Type 0
@@ -67,12 +69,14 @@ module _ (a : Asking) (x : Journal) (q : Request) (y : Asks a x q) where
   past w (inr (_, inr (_, inl (j, _)))) = absurd (subst InJob (y .is-idle) j)
   past w (inr (_, inr (_, inr (_, inl (e, _))))) =
       let u : Unmounted ≡ Idle = sym e ∙ y .is-idle in let v : _≡_ {A = ℕ} 0 1 = cc in absurd (omega arith)
-  past w (inr (_, inr (_, inr (_, inr (_, inl (f, _)))))) = absurd (f x (y .is-held))
+  past w (inr (_, inr (_, inr (_, inr (_, inl (f, _)))))) = absurd (f .1 x (y .is-held))
   past w (inr (_, inr (_, inr (_, inr (_, inr (_, inl (f, _))))))) = absurd (f q (y .is-asked))
-  past w (inr (_, inr (_, inr (_, inr (_, inr (_, inr (_, z))))))) = z
+  past w (inr (_, inr (_, inr (_, inr (_, inr (_, inr (_, inl (l, _)))))))) =
+      absurd (never-lost a x (y .bytes) (is-allowed (a .blocks) (length (a .image)) (y .length-ok)) (y .is-held) l)
+  past w (inr (_, inr (_, inr (_, inr (_, inr (_, inr (_, inr (_, z)))))))) = z
 
   pub asks-one : (s : Request) → Means (a .message) s → q ≡ s
-  asks-one s k = same-request (a .message) q s (y .is-asked) k
+  asks-one s k = one-request (a .message) q s (y .is-asked) k
 
   -- of a request that is no read and no log 16, 12, 7 and 6 alone are left
   later : Changes q → (w : Answer) → Exactly afterMalformed w

@@ -1,28 +1,27 @@
 -- The current block mended in place: a torn frame closed, then a reset. Each byte lands, every prefix keeps what a mount finds, and the block then has its
 -- settled objects and nothing pending.
-use mathlib.Core.Path.{_≡_, refl, sym, ap, subst, _∙_}
-use mathlib.Core.List.{List, [], _∷_, _++_, append-nil}
-use Prim.Native.Nat.{ℕ, suc, _+_, _≤_, _<_}
+use mathlib.Core.Path.{_≡_, refl, sym, ap, subst, _∙_, subst₂}
+use mathlib.Core.List.{List, [], _∷_, _++_}
+use Prim.Native.Nat.{ℕ, suc, _+_, _≤_}
 use native.Mathlib.Omega.{arith}
 use lib.ListN.{length, getD, take}
 use Rattle.flash.specs.Flash.{Step, applyAll, block, Write, write, writes, writeAll}
 use Rattle.flash.proofs.Offsets.{Below}
 use Rattle.frame.specs.declared.Edition.{Edition}
-use Rattle.frame.specs.Frame.{Frame, closed, reset, encode, editionNumber}
+use Rattle.frame.specs.Frame.{closed, reset, encode, editionNumber, frameLen}
 use Rattle.frame.specs.Reader.{Tail, clean, cut, bad}
 use Rattle.frame.proofs.Encode.{length-encode, total-snoc}
 use Rattle.journal.specs.Replay.{Object, Entry, State, state, settledOnly}
 use Rattle.journal.specs.Block.{Journal, tornLen, closeWrites}
 use Rattle.journal.specs.Room.{countsIn}
 use Rattle.journal.proofs.Blocks.{Okay}
-use Rattle.journal.proofs.States.{Contents}
 use Rattle.journal.proofs.Building.{Lands}
 use Rattle.journal.proofs.Closing.{ClosesWell, Closed}
 use Rattle.journal.proofs.Replaying.{replay-snoc}
-use Rattle.journal.proofs.PerHost.{counts-none}
+use Rattle.journal.proofs.Tables.{places-stay}
 use Rattle.board.specs.declared.Rest.{Rest}
 use Rattle.board.specs.Record.{landing, idle}
-use Rattle.board.specs.Mount.{endOf, closedEnd, resetBytes, dueReset, replayOf}
+use Rattle.board.specs.Mount.{endOf, closedEnd, resetBytes, dueReset, replayOf, placesIn}
 use Rattle.board.specs.Plan.{onBlock}
 use Rattle.board.specs.Claim.{Track}
 use Rattle.board.proofs.Images.{length-all-steps, apply-append, block-writes}
@@ -39,6 +38,7 @@ pub record Tidy (N s : ℕ) (img : List ℕ) (k : ℕ) (w : Journal) : Type 0 wh
   pub edition : journal .edition ≡ w .edition
   pub same : replayOf journal ≡ replayOf w
   pub ends : endOf journal ≡ closedEnd w
+  pub places : placesIn journal ≡ placesIn w
 
 -- the writes that close it
 abbrev pub tidying : ℕ → ℕ → List ℕ → Journal → List Write
@@ -72,7 +72,7 @@ module _ {N s k : ℕ} {img : List ℕ} {w : Journal} (a : Alone N s img k w) (c
           let none : ws ≡ [] = ap (closeWrites (block s k img) (endOf w)) e in
           let ends : endOf w ≡ endOf w + tornLen (w .tail) = omega (arith, ap tornLen e) in
           subst (λ (l : List Write). Tidy N s (applyAll s (onBlock k l) img) k w) (sym none)
-          (record { journal = w; alone = a; is-clean = e; edition = refl; same = refl; ends = ends })
+          (record { journal = w; alone = a; is-clean = e; edition = refl; same = refl; ends = ends; places = refl })
       go (cut n) e =
           let y : Closed (writeAll (block s k img) ws) w n = c .after n e in
           record {
@@ -82,6 +82,7 @@ module _ {N s k : ℕ} {img : List ℕ} {w : Journal} (a : Alone N s img k w) (c
             edition = refl;
             same = replay-snoc (w .frames) (closed (y .value));
             ends = omega (arith, total-snoc (w .edition) (w .frames) (closed (y .value)), y .long, ap tornLen e);
+            places = places-stay (w .edition) (w .frames) (closed (y .value)) (λ st o. refl);
           }
       go (bad f) e = absurd (subst Okay e (a .contents .okay))
 
@@ -139,13 +140,13 @@ module _ {N s k : ℕ} {img : List ℕ} {w : Journal} (y : Tidy N s img k w) (ro
 
   reset-ends : (z : Rest) → z .blocks ≡ N → length img ≡ suc (z .last) → z .pending ≡ countsIn (v .edition) (settledOnly (replayOf v))
       → Roomy s (v .edition) (settledOnly (replayOf v))
-      → After N s (v .edition) (applyAll s (resetting k w) img) (idle (landing z (editionNumber (v .edition)) k (closedEnd w + length (dueReset w))))
-      (settledOnly (replayOf v))
+      → After N s (v .edition) (applyAll s (resetting k w) img)
+      (idle (placesIn v) (landing z (editionNumber (v .edition)) k (closedEnd w + length (dueReset w)))) (settledOnly (replayOf v))
   unfolding applyAll
   reset-ends z b e counts roomy = go (replayOf w .pending) refl
     where
       Ends : List Step → ℕ → Type 0
-      Ends xs n = After N s (v .edition) (applyAll s xs img) (idle (landing z (editionNumber (v .edition)) k n)) (settledOnly (replayOf v))
+      Ends xs n = After N s (v .edition) (applyAll s xs img) (idle (placesIn v) (landing z (editionNumber (v .edition)) k n)) (settledOnly (replayOf v))
 
       go : (ps : List Entry) → replayOf w .pending ≡ ps → Ends (resetting k w) (closedEnd w + length (dueReset w))
       go [] q =
@@ -163,7 +164,10 @@ module _ {N s k : ℕ} {img : List ℕ} {w : Journal} (y : Tidy N s img k w) (ro
           ) in
           subst (λ (xs : List Step). Ends xs (closedEnd w + length (dueReset w))) (reset-is q)
           (subst (Ends (onBlock k (writes (endOf v) (encode (v .edition) reset)))) (ap (λ (m : ℕ). endOf v + m) (sym (length-encode (v .edition) reset)) ∙ n)
-          (append-ends (y .alone) (y .is-clean) reset (reset-fits q) z b e counts roomy))
+          (subst (λ (ps : List ℕ). After N s (v .edition) (applyAll s (onBlock k (writes (endOf v) (encode (v .edition) reset))) img)
+          (idle ps (landing z (editionNumber (v .edition)) k (endOf v + frameLen (v .edition) reset))) (settledOnly (replayOf v)))
+          (places-stay (v .edition) (v .frames) reset (λ st o. refl))
+          (append-ends (y .alone) (y .is-clean) reset (reset-fits q) z b e counts roomy)))
 
 -- ---- both
 
@@ -191,17 +195,18 @@ module _ {N s k : ℕ} {img : List ℕ} {w : Journal} (a : Alone N s img k w) (c
   pub mend-ends : (z : Rest) → z .blocks ≡ N → length img ≡ suc (z .last) → z .pending ≡ countsIn (w .edition) (settledOnly (replayOf w))
       → Roomy s (w .edition) (settledOnly (replayOf w))
       → After N s (w .edition) (applyAll s (closes ++ resetting k w) img)
-      (idle (landing z (editionNumber (w .edition)) k (closedEnd w + length (dueReset w)))) (settledOnly (replayOf w))
+      (idle (placesIn w) (landing z (editionNumber (w .edition)) k (closedEnd w + length (dueReset w)))) (settledOnly (replayOf w))
   mend-ends z b e counts roomy =
-      subst (λ (i : List ℕ). After N s (w .edition) i (idle (landing z (editionNumber (w .edition)) k (closedEnd w + length (dueReset w)))) (settledOnly (replayOf w)))
+      subst (λ (i : List ℕ). After N s (w .edition) i
+      (idle (placesIn w) (landing z (editionNumber (w .edition)) k (closedEnd w + length (dueReset w)))) (settledOnly (replayOf w)))
       (sym (apply-append s closes (resetting k w) img))
-      (subst (Ends (w .edition)) (ap settledOnly (tidied .same))
-      (subst (λ (ed : Edition). Ends ed (settledOnly (replayOf (tidied .journal)))) (tidied .edition)
+      (subst₂ (Ends (w .edition)) (tidied .places) (ap settledOnly (tidied .same))
+      (subst (λ (ed : Edition). Ends ed (placesIn (tidied .journal)) (settledOnly (replayOf (tidied .journal)))) (tidied .edition)
       (reset-ends tidied room z b (length-all-steps s closes img ∙ e)
       (subst (λ (ed : Edition). z .pending ≡ countsIn ed (settledOnly (replayOf (tidied .journal)))) (sym (tidied .edition))
       (counts ∙ ap (λ (st : State). countsIn (w .edition) (settledOnly st)) (sym (tidied .same))))
       (subst (λ (ed : Edition). Roomy s ed (settledOnly (replayOf (tidied .journal)))) (sym (tidied .edition))
       (subst (λ (st : State). Roomy s (w .edition) (settledOnly st)) (sym (tidied .same)) roomy)))))
     where
-      Ends : Edition → State → Type 0
-      Ends ed st = After N s ed (applyAll s (resetting k w) shut) (idle (landing z (editionNumber ed) k (closedEnd w + length (dueReset w)))) st
+      Ends : Edition → List ℕ → State → Type 0
+      Ends ed ps st = After N s ed (applyAll s (resetting k w) shut) (idle ps (landing z (editionNumber ed) k (closedEnd w + length (dueReset w)))) st

@@ -10,15 +10,15 @@ use Rattle.flash.proofs.Image.{bytes-block}
 use Rattle.flash.proofs.Offsets.{below-at}
 use Rattle.frame.specs.declared.Edition.{Edition}
 use Rattle.frame.specs.Frame.{editionNumber}
-use Rattle.journal.specs.Replay.{Object, State, settledOnly}
-use Rattle.journal.specs.Block.{lastTime}
+use Rattle.journal.specs.Replay.{Object, State, settledOnly, framesOf}
 use Rattle.journal.proofs.Places.{Standing}
 use Rattle.journal.proofs.Closing.{ClosesWell, closes-well}
 use Rattle.journal.proofs.Room.{claimed-settled}
 use Rattle.journal.proofs.PerHost.{counts-none}
+use Rattle.journal.specs.Index.{placesOf}
 use Rattle.board.specs.Record.{landing, idle}
 use Rattle.board.specs.Step.{enterWipe}
-use Rattle.board.specs.Mount.{Store, allFound, wipeList, nextBlock, Upkeep, rests, mends, moves, upkeep, storeAt, blockIn, closedEnd, closesFor, dueReset}
+use Rattle.board.specs.Mount.{Store, allFound, wipeList, nextBlock, Upkeep, rests, mends, moves, upkeep, storeAt, closedEnd, closesFor, dueReset}
 use Rattle.board.specs.Mount.{mountJob, replayOf, timeOf}
 use Rattle.board.specs.Exec.{exec}
 use Rattle.board.specs.Plan.{Performs, programs, Work, afterSteps, onBlock, upkeepWork, mountWork}
@@ -146,7 +146,8 @@ module _ {N : ℕ} {s : ℕ} {img : List ℕ} (x : Store) (z : Sized N s img) (b
   unfolding applyAll
   ends-kept moves e =
       let after : List ℕ = applyAll s (kept moves .steps) wiped in
-      subst (λ (n : ℕ). After N s ed after (idle (landing (storeAt N (length img - 1) x) (editionNumber ed) (nextBlock N (x .number)) n)) st)
+      subst (λ (n : ℕ). After N s ed after
+      (idle (placesOf ed (framesOf st)) (landing (storeAt N (length img - 1) x) (editionNumber ed) (nextBlock N (x .number)) n)) st)
       (claimed-settled ed (replayOf (x .journal)))
       (transferred alone ed st (moves-settled alone (t e)) (storeAt N (length img - 1) x) refl long
       (sym (counts-none ed (st .objects))) (roomy-settled alone))

@@ -5,7 +5,7 @@ use mathlib.Core.Option.{Option, none, some}
 use mathlib.Core.Bool.{true, false, _&&_, Bool, cond}
 use Prim.Native.Nat.{ℕ, suc, _+_}
 use lib.Dec.{eqb, ltb, leb}
-use lib.ListN.{length}
+use lib.ListN.{length, getD}
 use Rattle.frame.specs.declared.Edition.the-variants as edition
 use Rattle.flash.specs.Flash.{apply, block, sizeOf, within}
 use Rattle.frame.specs.declared.ObjectId.{ObjectId}
@@ -13,14 +13,15 @@ use Rattle.frame.specs.Frame.{hostMax, Change, put, delete, Frame, change, comm
 use Rattle.journal.specs.Replay.{lookup, isOpen, Entry}
 use Rattle.journal.specs.Block.{Journal, lastTime, markWrites}
 use Rattle.journal.specs.Room.{noRoom, hostFull, used}
-use Rattle.journal.specs.Index.{Load, nextLoad}
+use Rattle.journal.specs.Index.{Load, nextLoad, Value}
 use Rattle.wire.specs.declared.Answer.the-variants.{Done}
 use Rattle.wire.specs.declared.Refusal.the-variants as refusal
 use Rattle.wire.specs.declared.Page.the-variants.{Summary}
 use Rattle.wire.specs.declared.Request.{Request}
 use Rattle.wire.specs.declared.Request.the-variants.{Put, Delete, Commit, Abort, Read, Log, Convert}
 use Rattle.wire.specs.declared.Parsed.the-variants.{Is, Malformed}
-use Rattle.wire.specs.Message.{parse, valueIn, pageLen, logPage, withPage}
+use Rattle.wire.specs.Message.{parse, ofReadKind, idIn, valueIn, pageLen, logPage, withPage}
+use Rattle.flash.proofs.Cases.{on-test}
 use Rattle.board.specs.declared.Stage.{Stage}
 use Rattle.board.specs.declared.Stage.the-variants.{Wipe, Open, Copy, Seal, Drop, Append, Close}
 use Rattle.board.specs.declared.Phase.{Phase}
@@ -32,6 +33,8 @@ use Rattle.board.specs.Step.{nextIndex, nextByte, pastFrame, advance, sa
 use Rattle.board.specs.Mount.{allFound, Found, Store, stores, equalTimes, newest, wipeList, upkeep, transfers, mountJob, replayOf, usedOf, timeOf}
 use Rattle.board.specs.Mount.{noneValid, lowestTied, tiedTimes, mountAt, mountStores, mountFound, mountOn, formatJob, formatOn}
 use Rattle.board.specs.Queue.{appendJob, append, serveChange, serveEnd, placeOf, serveLog, serve, serveParsed, serveHeld, requestIn, requestOn}
+use Rattle.board.specs.Queue.{readFound, valueFor, readPlace, readAt, readParsed, requestBy}
+use Rattle.board.specs.Table.{placeFor}
 use Rattle.board.specs.Queue.{Asking, sizeFor, heldFor, movesFor, refuseTo, doneAt, convertJob, convert, convertWith, serveConvert}
 use Rattle.board.specs.Demand1.{Rests}
 
@@ -162,16 +165,70 @@ module _ (a : Asking) where
       unfolding requestOn
       request-in p = rw (ok, e, requestOn) (ap (requestIn a) p)
 
-      pub request-stale : a .board .phase ≡ Idle → heldFor a ≡ none → requestOn a ≡ refuseTo a refusal.Stale
-      request-stale p q = request-in p ∙ ap (serveHeld a) q
+      -- a message of any kind but a read's
+      module _ (k : ofReadKind (a .message) ≡ false) (p : a .board .phase ≡ Idle) where
+        pub request-held : requestOn a ≡ serveHeld a (heldFor a)
+        request-held = request-in p ∙ ap (requestBy a) k
 
-      pub request-malformed : (x : Journal) → a .board .phase ≡ Idle → heldFor a ≡ some x → parse (a .message) ≡ Malformed
-          → requestOn a ≡ refuseTo a refusal.Malformed
-      request-malformed x p q z = request-in p ∙ ap (serveHeld a) q ∙ ap (serveParsed a x) z
+        pub request-stale : heldFor a ≡ none → requestOn a ≡ refuseTo a refusal.Stale
+        request-stale q = request-held ∙ ap (serveHeld a) q
 
-      pub request-served : (x : Journal) (q : Request) → a .board .phase ≡ Idle → heldFor a ≡ some x → parse (a .message) ≡ Is q
-          → requestOn a ≡ serve a x q
-      request-served x q p y z = request-in p ∙ ap (serveHeld a) y ∙ ap (serveParsed a x) z
+        pub request-malformed : (x : Journal) → heldFor a ≡ some x → parse (a .message) ≡ Malformed → requestOn a ≡ refuseTo a refusal.Malformed
+        request-malformed x q z = request-held ∙ ap (serveHeld a) q ∙ ap (serveParsed a x) z
+
+        pub request-served : (x : Journal) (q : Request) → heldFor a ≡ some x → parse (a .message) ≡ Is q → requestOn a ≡ serve a x q
+        request-served x q y z = request-held ∙ ap (serveHeld a) y ∙ ap (serveParsed a x) z
+
+      -- a read, or what is malformed as one
+      module _ (k : ofReadKind (a .message) ≡ true) (p : a .board .phase ≡ Idle) where
+        pub request-read : requestOn a ≡ readParsed a (parse (a .message))
+        request-read = request-in p ∙ ap (requestBy a) k
+
+        pub read-malformed : parse (a .message) ≡ Malformed → requestOn a ≡ refuseTo a refusal.Malformed
+        read-malformed z = request-read ∙ ap (readParsed a) z
+
+        pub read-placed : (q : Request) → parse (a .message) ≡ Is q → requestOn a ≡ readAt a (idIn (a .message))
+        read-placed q z = request-read ∙ ap (readParsed a) z
+
+  -- a read by its place
+  pub read-misshapen : (i : ObjectId) → sameShape (a .blocks) (length (a .image)) (a .board) ≡ false → readAt a i ≡ refuseTo a refusal.Stale
+  unfolding readAt
+  read-misshapen i e = rw (e, readAt)
+
+  pub read-shaped : (i : ObjectId) → sameShape (a .blocks) (length (a .image)) (a .board) ≡ true
+      → readAt a i ≡ readPlace a i (getD (a .board .places) (i .0) 0)
+  unfolding readAt
+  read-shaped i e = rw (e, readAt)
+
+  pub read-absent : (i : ObjectId) (p : ℕ) → eqb p 0 ≡ true → readPlace a i p ≡ refuseTo a refusal.NoObject
+  unfolding readPlace
+  read-absent i p e = rw (e, readPlace)
+
+  pub read-there : (i : ObjectId) (p : ℕ) → eqb p 0 ≡ false → readPlace a i p ≡ readFound a (valueFor a i p)
+  unfolding readPlace
+  read-there i p e = rw (e, readPlace)
+
+-- what a read by its place comes to
+pub data ReadCase (a : Asking) (i : ObjectId) : Type 0 where
+  misshapen : sameShape (a .blocks) (length (a .image)) (a .board) ≡ false → readAt a i ≡ refuseTo a refusal.Stale → ReadCase a i
+  absent : sameShape (a .blocks) (length (a .image)) (a .board) ≡ true → eqb (placeFor a i) 0 ≡ true → readAt a i ≡ refuseTo a refusal.NoObject → ReadCase a i
+  lost : sameShape (a .blocks) (length (a .image)) (a .board) ≡ true → eqb (placeFor a i) 0 ≡ false → valueFor a i (placeFor a i) ≡ none
+      → readAt a i ≡ refuseTo a refusal.Stale → ReadCase a i
+  found : (x : Value) → sameShape (a .blocks) (length (a .image)) (a .board) ≡ true → eqb (placeFor a i) 0 ≡ false → valueFor a i (placeFor a i) ≡ some x
+      → readAt a i ≡ readFound a (some x) → ReadCase a i
+
+pub read-case : (a : Asking) (i : ObjectId) → ReadCase a i
+read-case a i =
+    on-test (sameShape (a .blocks) (length (a .image)) (a .board))
+    (λ t. on-test (eqb (placeFor a i) 0)
+    (λ z. absent t z (read-shaped a i t ∙ read-absent a i (placeFor a i) z))
+    (λ z. value (valueFor a i (placeFor a i)) refl t z))
+    (λ t. misshapen t (read-misshapen a i t))
+  where
+    value : (o : Option Value) → valueFor a i (placeFor a i) ≡ o → sameShape (a .blocks) (length (a .image)) (a .board) ≡ true
+        → eqb (placeFor a i) 0 ≡ false → ReadCase a i
+    value none e t z = lost t z e (read-shaped a i t ∙ read-there a i (placeFor a i) z ∙ ap (readFound a) e)
+    value (some x) e t z = found x t z e (read-shaped a i t ∙ read-there a i (placeFor a i) z ∙ ap (readFound a) e)
 
 -- ---- mount
 
@@ -287,7 +344,7 @@ pub append-enters : (r : Record) → ltb 0 (r .job .size) ≡ true → enterAppe
 unfolding enterAppend
 append-enters r e = rw (e, enterAppend)
 
-pub append-skips : (r : Record) → ltb 0 (r .job .size) ≡ false → enterAppend r ≡ idle (r .rest)
+pub append-skips : (r : Record) → ltb 0 (r .job .size) ≡ false → enterAppend r ≡ idle (r .places) (r .rest)
 unfolding enterAppend
 append-skips r e = rw (e, enterAppend)
 
@@ -336,7 +393,7 @@ module _ (N : ℕ) (img : List ℕ) (r : Record) where
   append-next e = rw e
 
   pub append-last : ltb (suc (r .cursor .index)) (r .job .size) ≡ false
-      → advance N Append img r ≡ idle (ending (r .rest) (r .rest .end + r .job .size))
+      → advance N Append img r ≡ idle (r .places) (ending (r .rest) (r .rest .end + r .job .size))
   unfolding advance
   append-last e = rw e
 

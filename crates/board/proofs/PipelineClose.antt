@@ -1,7 +1,7 @@
 -- The stage that closes a torn frame: its step calls do the writes one by one, then the job goes on to its frame.
 use mathlib.Core.Path.{_≡_, refl, sym, ap, ap₂, subst, _∙_}
 use mathlib.Core.List.{List, [], _∷_, _++_, map}
-use mathlib.Core.Bool.{Bool, true, cond}
+use mathlib.Core.Bool.{Bool, cond}
 use Prim.Native.Nat.{ℕ, suc, _+_, _-_, _≤_, _<_}
 use native.Mathlib.Omega.{arith}
 use lib.Dec.{eqb, ltb}
@@ -75,13 +75,13 @@ module _ {N : ℕ} (s : ℕ) (home : Rest) (shape : Shape N home s) (places : Li
 
   pub follows-close : (st : Stage) (c : Cursor) (u img : List ℕ) → length img ≡ suc (home .last)
       → Follows N (exec N) img (enterClose (jobAt home places j (buffer bytes) st c u))
-      (onBlock (home .block) ws ++ onBlock (home .block) (writes (home .end) bytes)) (idle (ending home (home .end + length bytes)))
+      (onBlock (home .block) ws ++ onBlock (home .block) (writes (home .end) bytes)) (idle places (ending home (home .end + length bytes)))
   unfolding enterClose
   follows-close st c u img q =
       let r : Record = jobAt home places j (buffer bytes) st c u in
       let steps : List Step = onBlock (home .block) ws in
       let tail : List Step = onBlock (home .block) (writes (home .end) bytes) in
-      let done : Record = idle (ending home (home .end + length bytes)) in
+      let done : Record = idle places (ending home (home .end + length bytes)) in
       let app : (s′ : Stage) (c′ : Cursor) (img′ : List ℕ) → length img′ ≡ suc (home .last)
       → Follows N (exec N) img′ (enterAppend (jobAt home places j (buffer bytes) s′ c′ u)) tail done =
       λ s′ c′ img′ q′. follows-append s home shape places j bytes size here room s′ c′ u img′ q′ in

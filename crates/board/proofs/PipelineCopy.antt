@@ -10,18 +10,19 @@ use borrow.Author.Tests.{lt-ltb, le-ltb}
 use Rattle.flash.specs.Flash.{sizeIn, Step, program, block, within, applyAll, Write, write, writeStep, writes}
 use Rattle.flash.proofs.Programming.{writes-append}
 use Rattle.frame.specs.declared.Edition.{Edition}
+use Rattle.frame.specs.declared.Host.{Host}
 use Rattle.frame.specs.Frame.{editionBy, Frame, encode, encodeAll, frameLen, total}
 use Rattle.frame.proofs.Encode.{length-encode}
 use Rattle.journal.specs.Block.{openWrites, openWrite, markWrites, stateAt, inTransfer, headerLen}
-use Rattle.journal.specs.Index.{Load, load, nextLoad}
-use Rattle.journal.proofs.Loading.{Yields}
+use Rattle.journal.specs.Index.{Load, load, nextLoad, placeCopied, placeAll}
+use Rattle.journal.proofs.Loading.{Yields, SameFrom, load-same, load-past}
 use Rattle.board.specs.declared.Stage.{Stage}
 use Rattle.board.specs.declared.Stage.the-variants.{Open, Copy}
 use Rattle.board.specs.declared.Job.{Job}
 use Rattle.board.specs.declared.Rest.{Rest}
 use Rattle.board.specs.declared.Record.{Record}
 use Rattle.board.specs.Record.{buffer, cursor, landing, idle}
-use Rattle.board.specs.Step.{enter, loadOr, enterCopy, advance}
+use Rattle.board.specs.Step.{enter, endsWith, loadOr, enterCopy, advance}
 use Rattle.board.specs.Exec.{exec}
 use Rattle.board.specs.Plan.{Follows, onBlock}
 use Rattle.board.proofs.Images.{length-all-steps}
@@ -80,41 +81,47 @@ module _ {N : ℕ} (s : ℕ) (home : Rest) (shape : Shape N home s) (places : Li
   abbrev was : Edition
   was = editionBy (home .edition)
 
-  abbrev at : Stage → ℕ → ℕ → ℕ → ℕ → ℕ → ℕ → List ℕ → Record
-  at st i a d so z o u = jobAt home places j (buffer bytes) st (cursor i a d so z o) u
+  -- whose commit the job ends with
+  abbrev ends : Host → Bool
+  ends = endsWith (buffer bytes)
 
-  -- the next frame to copy, as the record finds it
-  next-frame : (b img : List ℕ) (st : Stage) (i a d so z o : ℕ) (u : List ℕ) (x : Option Load) → length img ≡ suc (home .last) → block s (home .block) img ≡ b
-      → nextLoad was b (home .end) places (j .since) d so ≡ x → enterCopy N img (at st i a d so z o u) ≡ loadOr (at st i a d so z o u) x
+  abbrev at : List ℕ → Stage → ℕ → ℕ → ℕ → ℕ → ℕ → ℕ → List ℕ → Record
+  at ps st i a d so z o u = jobAt home ps j (buffer bytes) st (cursor i a d so z o) u
+
+  -- the next frame to copy, as the record finds it: by its places from the next id on, which are those at the job's start
+  next-frame : (b img ps : List ℕ) (st : Stage) (i a d so z o : ℕ) (u : List ℕ) (x : Option Load) → length img ≡ suc (home .last)
+      → block s (home .block) img ≡ b → SameFrom d ps places → nextLoad was b (home .end) places (j .since) d so ≡ x
+      → enterCopy N img (at ps st i a d so z o u) ≡ loadOr (at ps st i a d so z o u) x
   unfolding enterCopy
-  next-frame b img st i a d so z o u x q h n =
-      let r : Record = at st i a d so z o u in
-      ap (λ (m : ℕ). loadOr r (nextLoad was (block (sizeIn N m) (home .block) img) (home .end) places (j .since) d so)) q
-      ∙ ap (λ (m : ℕ). loadOr r (nextLoad was (block m (home .block) img) (home .end) places (j .since) d so)) (shape .size)
-      ∙ ap (λ (y : List ℕ). loadOr r (nextLoad was y (home .end) places (j .since) d so)) h ∙ ap (loadOr r) n
+  next-frame b img ps st i a d so z o u x q h e n =
+      let r : Record = at ps st i a d so z o u in
+      ap (λ (m : ℕ). loadOr r (nextLoad was (block (sizeIn N m) (home .block) img) (home .end) ps (j .since) d so)) q
+      ∙ ap (λ (m : ℕ). loadOr r (nextLoad was (block m (home .block) img) (home .end) ps (j .since) d so)) (shape .size)
+      ∙ ap (λ (y : List ℕ). loadOr r (nextLoad was y (home .end) ps (j .since) d so)) h
+      ∙ ap (loadOr r) (load-same was b (home .end) ps places (j .since) d so e ∙ n)
 
-  copies : (bs : List ℕ) (a d so n : ℕ) → length bs ≡ n → a + n ≤ s
-      → Runs N home s Copy (λ o. at Copy 0 (a + o) d so n o (buffer bs)) (λ img. enterCopy N img (at Copy 0 (a + n) d so n 0 (buffer bs)))
+  copies : (ps bs : List ℕ) (a d so n : ℕ) → length bs ≡ n → a + n ≤ s
+      → Runs N home s Copy (λ o. at ps Copy 0 (a + o) d so n o (buffer bs)) (λ img. enterCopy N img (at ps Copy 0 (a + n) d so n 0 (buffer bs)))
       (onBlock (j .target) (writes a bs)) (program (j .target) 0 0)
   unfolding advance
-  copies bs a d so n q room =
+  copies ps bs a d so n q room =
       record {
         phase = λ i. refl;
         stands = λ i. refl;
         acts = λ i h. buffered (j .target) a bs i h;
         inside = step-inside s (j .target) a bs (shape .count) there (omega arith);
         goes = λ i img h.
-            let c : Record = at Copy 0 (suc (a + i)) d so n (suc i) (buffer bs) in
-            let p : Record = at Copy 0 (suc (a + i)) d so n 0 (buffer bs) in
+            let c : Record = at ps Copy 0 (suc (a + i)) d so n (suc i) (buffer bs) in
+            let p : Record = at ps Copy 0 (suc (a + i)) d so n 0 (buffer bs) in
             let e′ : suc (a + i) ≡ a + suc i = omega arith in
             ap (λ (b : Bool). cond b c (enterCopy N img p)) (lt-ltb (suc i) n (omega (arith, length-steps (j .target) a bs)))
-            ∙ ap (λ (m : ℕ). at Copy 0 m d so n (suc i) (buffer bs)) e′;
+            ∙ ap (λ (m : ℕ). at ps Copy 0 m d so n (suc i) (buffer bs)) e′;
         ends = λ i img h.
-            let c : Record = at Copy 0 (suc (a + i)) d so n (suc i) (buffer bs) in
-            let p : Record = at Copy 0 (suc (a + i)) d so n 0 (buffer bs) in
+            let c : Record = at ps Copy 0 (suc (a + i)) d so n (suc i) (buffer bs) in
+            let p : Record = at ps Copy 0 (suc (a + i)) d so n 0 (buffer bs) in
             let e′ : suc (a + i) ≡ a + n = omega (arith, length-steps (j .target) a bs) in
             ap (λ (b : Bool). cond b c (enterCopy N img p)) (le-ltb (suc i) n (omega (arith, length-steps (j .target) a bs)))
-            ∙ ap (λ (m : ℕ). enterCopy N img (at Copy 0 m d so n 0 (buffer bs))) e′;
+            ∙ ap (λ (m : ℕ). enterCopy N img (at ps Copy 0 m d so n 0 (buffer bs))) e′;
       }
 
   -- the copying leaves the block that is copied
@@ -124,61 +131,66 @@ module _ {N : ℕ} (s : ℕ) (home : Rest) (shape : Shape N home s) (places : Li
   source-kept ws w img h =
       kept-stage N s (onBlock (j .target) ws) (writeStep (j .target) w) h (home .block) (λ i q. apart (sym (q ∙ on-block (j .target) ws i w))) img
 
-  copy-one : (b bs : List ℕ) (a d so n : ℕ) (img : List ℕ) (tail : List Step) (z : Record) → length img ≡ suc (home .last)
+  copy-one : (b ps bs : List ℕ) (a d so n : ℕ) (img : List ℕ) (tail : List Step) (z : Record) → length img ≡ suc (home .last)
       → block s (home .block) img ≡ b → length bs ≡ n → 0 < n
       → a + n ≤ s
       → ((img′ : List ℕ) → length img′ ≡ suc (home .last) → block s (home .block) img′ ≡ b → Follows N (exec N) img′
-      (enterCopy N img′ (at Copy 0 (a + n) d so n 0 (buffer bs))) tail z)
-      → Follows N (exec N) img (at Copy 0 a d so n 0 (buffer bs)) (onBlock (j .target) (writes a bs) ++ tail) z
-  copy-one b bs a d so n img tail z q h w p room f =
+      (enterCopy N img′ (at ps Copy 0 (a + n) d so n 0 (buffer bs))) tail z)
+      → Follows N (exec N) img (at ps Copy 0 a d so n 0 (buffer bs)) (onBlock (j .target) (writes a bs) ++ tail) z
+  copy-one b ps bs a d so n img tail z q h w p room f =
       let xs : List Step = onBlock (j .target) (writes a bs) in
       let a′ : a + 0 ≡ a = omega arith in
-      subst (λ (m : ℕ). Follows N (exec N) img (at Copy 0 m d so n 0 (buffer bs)) (xs ++ tail) z) a′
-      (follows-stage home s Copy (λ o. at Copy 0 (a + o) d so n o (buffer bs)) (λ img′. enterCopy N img′ (at Copy 0 (a + n) d so n 0 (buffer bs))) xs
-      (program (j .target) 0 0) shape (copies bs a d so n w room) tail z (n - 1) img (omega (arith, length-steps (j .target) a bs)) q
+      subst (λ (m : ℕ). Follows N (exec N) img (at ps Copy 0 m d so n 0 (buffer bs)) (xs ++ tail) z) a′
+      (follows-stage home s Copy (λ o. at ps Copy 0 (a + o) d so n o (buffer bs)) (λ img′. enterCopy N img′ (at ps Copy 0 (a + n) d so n 0 (buffer bs))) xs
+      (program (j .target) 0 0) shape (copies ps bs a d so n w room) tail z (n - 1) img (omega (arith, length-steps (j .target) a bs)) q
       (f (applyAll s xs img) (length-all-steps s xs img ∙ q)
-      (source-kept (writes a bs) (write 0 0) img (copies bs a d so n w room .inside) ∙ h)))
+      (source-kept (writes a bs) (write 0 0) img (copies ps bs a d so n w room .inside) ∙ h)))
 
-  follows-copy : (b : List ℕ) (fs : List Frame) (st : Stage) (i a d so z o : ℕ) (u img : List ℕ) → length img ≡ suc (home .last) → block s (home .block) img ≡ b
+  follows-copy : (b ps : List ℕ) (fs : List Frame) (st : Stage) (i a d so z o : ℕ) (u img : List ℕ) → length img ≡ suc (home .last)
+      → block s (home .block) img ≡ b → SameFrom d ps places
       → Yields was b (home .end) places (j .since) d so fs → a + total ed fs + length bytes ≤ s
-      → Follows N (exec N) img (enterCopy N img (at st i a d so z o u))
+      → Follows N (exec N) img (enterCopy N img (at ps st i a d so z o u))
       (onBlock (j .target) (writes a (encodeAll ed fs)) ++ sealing j (home .block) bytes (a + total ed fs))
-      (idle (landing home (j .edition) (j .target) (a + total ed fs + length bytes)))
-  follows-copy b [] st i a d so z o u img q h y room =
+      (idle (placeAll ed ends a fs ps) (landing home (j .edition) (j .target) (a + total ed fs + length bytes)))
+  unfolding placeAll
+  follows-copy b ps [] st i a d so z o u img q h e y room =
       let t : a ≡ a + total ed [] = omega (arith, total-nil ed) in
-      let r : Record = at st i a d so z o u in
-      subst (λ (xs : List Step). Follows N (exec N) img (enterCopy N img r) xs (idle (landing home (j .edition) (j .target) (a + total ed [] + length bytes))))
+      let r : Record = at ps st i a d so z o u in
+      subst (λ (xs : List Step). Follows N (exec N) img (enterCopy N img r) xs (idle ps (landing home (j .edition) (j .target) (a + total ed [] + length bytes))))
       (sym (copy-nil ed (j .target) a (sealing j (home .block) bytes (a + total ed []))))
       (subst (λ (n : ℕ). Follows N (exec N) img (enterCopy N img r) (sealing j (home .block) bytes n)
-      (idle (landing home (j .edition) (j .target) (n + length bytes)))) t
-      (subst (λ (x : Record). Follows N (exec N) img x (sealing j (home .block) bytes a) (idle (landing home (j .edition) (j .target) (a + length bytes))))
-      (sym (next-frame b img st i a d so z o u none q h y))
-      (follows-seal s home shape places j bytes size here there st i a d so z o u img q (header) (omega arith))))
-  follows-copy b (f ∷ fs) st i a d so z o u img q h (d′, so′, n, low, end, y) room =
+      (idle ps (landing home (j .edition) (j .target) (n + length bytes)))) t
+      (subst (λ (x : Record). Follows N (exec N) img x (sealing j (home .block) bytes a) (idle ps (landing home (j .edition) (j .target) (a + length bytes))))
+      (sym (next-frame b img ps st i a d so z o u none q h e y))
+      (follows-seal s home shape ps j bytes size here there st i a d so z o u img q (header) (omega arith))))
+  follows-copy b ps (f ∷ fs) st i a d so z o u img q h e (d′, so′, n, low, end, y) room =
       let m : ℕ = frameLen ed f in
       let t : a + m + total ed fs ≡ a + total ed (f ∷ fs) = omega (arith, total-cons ed f fs) in
-      let r : Record = at st i a d so z o u in
+      let r : Record = at ps st i a d so z o u in
+      let ps′ : List ℕ = placeCopied ends a f ps in
+      let all : List ℕ = placeAll ed ends (a + m) fs ps′ in
       let tail : List Step = onBlock (j .target) (writes (a + m) (encodeAll ed fs)) ++ sealing j (home .block) bytes (a + m + total ed fs) in
-      let done : Record = idle (landing home (j .edition) (j .target) (a + m + total ed fs + length bytes)) in
+      let done : Record = idle all (landing home (j .edition) (j .target) (a + m + total ed fs + length bytes)) in
       subst
       (λ (x : ℕ).
       Follows N (exec N) img (enterCopy N img r) (onBlock (j .target) (writes a (encodeAll ed (f ∷ fs))) ++ sealing j (home .block) bytes x)
-      (idle (landing home (j .edition) (j .target) (x + length bytes)))) t
+      (idle all (landing home (j .edition) (j .target) (x + length bytes)))) t
       (subst (λ (xs : List Step). Follows N (exec N) img (enterCopy N img r) xs done) (sym (copy-cons ed (j .target) a f fs
       (sealing j (home .block) bytes (a + m + total ed fs))))
       (subst (λ (x : Record). Follows N (exec N) img x (onBlock (j .target) (writes a (encode ed f)) ++ tail) done)
-      (sym (next-frame b img st i a d so z o u (some (load f d′ so′)) q h n))
-      (copy-one b (encode ed f) a d′ so′ m img tail done q h (length-encode ed f) (omega arith) (omega arith)
-      (λ img′ q′ h′. follows-copy b fs Copy 0 (a + m) d′ so′ m 0 (buffer (encode ed f)) img′ q′ h′ y (omega arith)))))
+      (sym (next-frame b img ps st i a d so z o u (some (load f d′ so′)) q h e n))
+      (copy-one b ps′ (encode ed f) a d′ so′ m img tail done q h (length-encode ed f) (omega arith) (omega arith)
+      (λ img′ q′ h′. follows-copy b ps′ fs Copy 0 (a + m) d′ so′ m 0 (buffer (encode ed f)) img′ q′ h′
+      (load-past was b (home .end) places (j .since) d so (load f d′ so′) ends a ps n e) y (omega arith)))))
 
   -- ---- the block opened
 
   opens : (a d so z o : ℕ) (u : List ℕ)
-      → Runs N home s Open (λ i. at Open i a d so z o u) (λ img. enterCopy N img (at Open 4 a d so z o u)) (onBlock (j .target) (openWrites ed))
+      → Runs N home s Open (λ i. at places Open i a d so z o u) (λ img. enterCopy N img (at places Open 4 a d so z o u)) (onBlock (j .target) (openWrites ed))
       (writeStep (j .target) (write stateAt inTransfer))
   unfolding advance
   opens a d so z o u =
-      let r : ℕ → Record = λ i. at Open i a d so z o u in
+      let r : ℕ → Record = λ i. at places Open i a d so z o u in
       record {
         phase = λ i. refl;
         stands = λ i. refl;
@@ -194,15 +206,15 @@ module _ {N : ℕ} (s : ℕ) (home : Rest) (shape : Shape N home s) (places : Li
   pub follows-open : (b : List ℕ) (fs : List Frame) (st : Stage) (i a d so z o : ℕ) (u img : List ℕ) → length img ≡ suc (home .last)
       → block s (home .block) img ≡ b
       → Yields was b (home .end) places (j .since) d so fs → a + total ed fs + length bytes ≤ s
-      → Follows N (exec N) img (enter Open (at st i a d so z o u))
+      → Follows N (exec N) img (enter Open (at places st i a d so z o u))
       (onBlock (j .target) (openWrites ed) ++ (onBlock (j .target) (writes a (encodeAll ed fs)) ++ sealing j (home .block) bytes (a + total ed fs)))
-      (idle (landing home (j .edition) (j .target) (a + total ed fs + length bytes)))
+      (idle (placeAll ed ends a fs places) (landing home (j .edition) (j .target) (a + total ed fs + length bytes)))
   follows-open b fs st i a d so z o u img q h y room =
       let xs : List Step = onBlock (j .target) (openWrites ed) in
-      follows-stage home s Open (λ n. at Open n a d so z o u) (λ img′. enterCopy N img′ (at Open 4 a d so z o u)) xs
+      follows-stage home s Open (λ n. at places Open n a d so z o u) (λ img′. enterCopy N img′ (at places Open 4 a d so z o u)) xs
       (writeStep (j .target) (write stateAt inTransfer)) shape (opens a d so z o u)
       (onBlock (j .target) (writes a (encodeAll ed fs)) ++ sealing j (home .block) bytes (a + total ed fs))
-      (idle (landing home (j .edition) (j .target) (a + total ed fs + length bytes))) 4 img
+      (idle (placeAll ed ends a fs places) (landing home (j .edition) (j .target) (a + total ed fs + length bytes))) 4 img
       (sym (length-open ed (j .target))) q
-      (follows-copy b fs Open 4 a d so z o u (applyAll s xs img) (length-all-steps s xs img ∙ q)
-      (source-kept (openWrites ed) (write stateAt inTransfer) img (opens a d so z o u .inside) ∙ h) y room)
+      (follows-copy b places fs Open 4 a d so z o u (applyAll s xs img) (length-all-steps s xs img ∙ q)
+      (source-kept (openWrites ed) (write stateAt inTransfer) img (opens a d so z o u .inside) ∙ h) (λ i k m. refl) y room)

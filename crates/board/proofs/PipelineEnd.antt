@@ -101,7 +101,7 @@ length-seal k time = refl
 module _ {N : ℕ} (s : ℕ) (home : Rest) (shape : Shape N home s) (places : List ℕ) (j : Job) (bytes : List ℕ) (size : j .size ≡ length bytes)
     (here : home .block < N) (room : home .end + length bytes ≤ s) where
   appends : (a d so z o : ℕ) (u : List ℕ)
-      → Runs N home s Append (λ i. jobAt home places j (buffer bytes) Append (cursor i a d so z o) u) (λ img. idle (ending home (home .end + length bytes)))
+      → Runs N home s Append (λ i. jobAt home places j (buffer bytes) Append (cursor i a d so z o) u) (λ img. idle places (ending home (home .end + length bytes)))
       (onBlock (home .block) (writes (home .end) bytes)) (program (home .block) 0 0)
   unfolding advance
   appends a d so z o u =
@@ -111,24 +111,24 @@ module _ {N : ℕ} (s : ℕ) (home : Rest) (shape : Shape N home s) (places : Li
         acts = λ i h. buffered (home .block) (home .end) bytes i h;
         inside = step-inside s (home .block) (home .end) bytes (shape .count) here room;
         goes = λ i img h.
-            onward-on Append (j .size) (jobAt home places j (buffer bytes) Append (cursor i a d so z o) u) (idle (ending home (home .end + j .size)))
+            onward-on Append (j .size) (jobAt home places j (buffer bytes) Append (cursor i a d so z o) u) (idle places (ending home (home .end + j .size)))
             (omega (arith, length-steps (home .block) (home .end) bytes));
         ends = λ i img h.
-            onward-off Append (j .size) (jobAt home places j (buffer bytes) Append (cursor i a d so z o) u) (idle (ending home (home .end + j .size)))
-            (omega (arith, length-steps (home .block) (home .end) bytes)) ∙ ap (λ (n : ℕ). idle (ending home (home .end + n))) size;
+            onward-off Append (j .size) (jobAt home places j (buffer bytes) Append (cursor i a d so z o) u) (idle places (ending home (home .end + j .size)))
+            (omega (arith, length-steps (home .block) (home .end) bytes)) ∙ ap (λ (n : ℕ). idle places (ending home (home .end + n))) size;
       }
 
   pub follows-append : (st : Stage) (c : Cursor) (u img : List ℕ) → length img ≡ suc (home .last)
       → Follows N (exec N) img (enterAppend (jobAt home places j (buffer bytes) st c u)) (onBlock (home .block) (writes (home .end) bytes))
-      (idle (ending home (home .end + length bytes)))
+      (idle places (ending home (home .end + length bytes)))
   unfolding enterAppend
   follows-append st c u img q =
       let r : Record = jobAt home places j (buffer bytes) st c u in
       let steps : List Step = onBlock (home .block) (writes (home .end) bytes) in
-      let done : Record = idle (ending home (home .end + length bytes)) in
+      let done : Record = idle places (ending home (home .end + length bytes)) in
       on-test (ltb 0 (j .size))
       (λ t.
-      subst (λ (b : Bool). Follows N (exec N) img (cond b (enter Append r) (idle home)) steps done) (sym t)
+      subst (λ (b : Bool). Follows N (exec N) img (cond b (enter Append r) (idle places home)) steps done) (sym t)
       (subst (λ (xs : List Step). Follows N (exec N) img (enter Append r) xs done) (append-nil steps)
       (follows-stage home s Append (λ i. jobAt home places j (buffer bytes) Append (cursor i (c .at) (c .id) (c .source) (c .size) (c .off)) u)
       (λ i. done) steps
@@ -137,9 +137,9 @@ module _ {N : ℕ} (s : ℕ) (home : Rest) (shape : Shape N home s) (places : Li
       (λ t.
       let n : length bytes ≡ 0 = omega (arith, ltb-false 0 (j .size) t) in
       let z : home .end ≡ home .end + length bytes = omega arith in
-      subst (λ (b : Bool). Follows N (exec N) img (cond b (enter Append r) (idle home)) steps done) (sym t)
-      (subst (λ (xs : List Step). Follows N (exec N) img (idle home) xs done) (sym (no-steps (home .block) (home .end) bytes n))
-      (ap (λ (n : ℕ). idle (ending home n)) z)))
+      subst (λ (b : Bool). Follows N (exec N) img (cond b (enter Append r) (idle places home)) steps done) (sym t)
+      (subst (λ (xs : List Step). Follows N (exec N) img (idle places home) xs done) (sym (no-steps (home .block) (home .end) bytes n))
+      (ap (λ (n : ℕ). idle places (ending home n)) z)))
 
 -- ---- the old block erased, the new one sealed
 
@@ -148,12 +148,12 @@ module _ {N : ℕ} (s : ℕ) (home : Rest) (shape : Shape N home s) (places : Li
   follows-drop : (st : Stage) (i a d so z o : ℕ) (u img : List ℕ) → length img ≡ suc (home .last) → 0 < s → a + length bytes ≤ s
       → Follows N (exec N) img (enterDrop (jobAt home places j (buffer bytes) st (cursor i a d so z o) u))
       (dropped j (home .block) ++ onBlock (j .target) (writes a bytes))
-      (idle (landing home (j .edition) (j .target) (a + length bytes)))
+      (idle places (landing home (j .edition) (j .target) (a + length bytes)))
   unfolding enterDrop advance
   follows-drop st i a d so z o u img q p room =
       let r : Record = jobAt home places j (buffer bytes) st (cursor i a d so z o) u in
       let steps : List Step = onBlock (j .target) (writes a bytes) in
-      let done : Record = idle (landing home (j .edition) (j .target) (a + length bytes)) in
+      let done : Record = idle places (landing home (j .edition) (j .target) (a + length bytes)) in
       let app : (s′ : Stage) (c′ : Cursor) (img′ : List ℕ) → length img′ ≡ suc (home .last)
       → Follows N (exec N) img′ (enterAppend (jobAt (landing home (j .edition) (j .target) a) places j (buffer bytes) s′ c′ u)) steps done =
       λ s′ c′ img′ q′. follows-append s (landing home (j .edition) (j .target) a) (shape-landing (j .edition) (j .target) a shape)
@@ -196,12 +196,12 @@ module _ {N : ℕ} (s : ℕ) (home : Rest) (shape : Shape N home s) (places : Li
 
   pub follows-seal : (st : Stage) (i a d so z o : ℕ) (u img : List ℕ) → length img ≡ suc (home .last) → headerLen ≤ s → a + length bytes ≤ s
       → Follows N (exec N) img (enter Seal (jobAt home places j (buffer bytes) st (cursor i a d so z o) u)) (sealing j (home .block) bytes a)
-      (idle (landing home (j .edition) (j .target) (a + length bytes)))
+      (idle places (landing home (j .edition) (j .target) (a + length bytes)))
   follows-seal st i a d so z o u img q p room =
       let steps : List Step = onBlock (j .target) (sealWrites (j .time)) in
       follows-stage home s Seal (λ n. jobAt home places j (buffer bytes) Seal (cursor n a d so z o) u)
       (λ img′. enterDrop (jobAt home places j (buffer bytes) Seal (cursor 4 a d so z o) u)) steps (writeStep (j .target) (write stateAt validData)) shape
       (seals a d so z o u p) (dropped j (home .block) ++ onBlock (j .target) (writes a bytes))
-      (idle (landing home (j .edition) (j .target) (a + length bytes))) 4 img
+      (idle places (landing home (j .edition) (j .target) (a + length bytes))) 4 img
       (sym (length-seal (j .target) (j .time))) q
       (follows-drop Seal 4 a d so z o u (applyAll s steps img) (length-all-steps s steps img ∙ q) (omega arith) room)

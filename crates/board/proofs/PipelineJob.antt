@@ -12,20 +12,21 @@ use Rattle.flash.proofs.Cases.{on-test}
 use Rattle.frame.specs.declared.Edition.{Edition}
 use Rattle.frame.specs.Frame.{editionBy, Frame, encodeAll, total}
 use Rattle.journal.specs.Block.{openWrites, sealWrites, build, headerLen}
+use Rattle.journal.specs.Index.{placeAll}
 use Rattle.journal.proofs.Loading.{Yields}
 use Rattle.board.specs.declared.Stage.the-variants.{Wipe, Open}
 use Rattle.board.specs.declared.Job.{Job}
 use Rattle.board.specs.declared.Rest.{Rest}
 use Rattle.board.specs.declared.Record.{Record}
 use Rattle.board.specs.Record.{noFrame, buffer, cursor, landing, ending, starting, idle, busy}
-use Rattle.board.specs.Step.{enter, enterClose, enterOpen, enterWipe, advance}
+use Rattle.board.specs.Step.{enter, endsWith, enterClose, enterOpen, enterWipe, advance}
 use Rattle.board.specs.Mount.{wipeArray, closeArray}
 use Rattle.board.specs.Exec.{exec}
 use Rattle.board.specs.Plan.{Follows, onBlock}
 use Rattle.board.proofs.Blocks.{Blocks, a-block}
 use Rattle.board.proofs.Images.{length-all-steps}
 use Rattle.board.proofs.Pipeline.{inside-yes, Shape, Runs, follows-stage}
-use Rattle.board.proofs.PipelineEnd.{jobAt, onward-on, onward-off, dropped}
+use Rattle.board.proofs.PipelineEnd.{jobAt, onward-on, onward-off, dropped, sealing}
 use Rattle.board.proofs.PipelineClose.{Closing, follows-close}
 use Rattle.board.proofs.PipelineCopy.{map-append, follows-open}
 
@@ -114,14 +115,14 @@ module _ {N : ℕ} (img : List ℕ) (home : Rest) (places : List ℕ) (j : Job) 
 
   pub follows-staying : j .moves ≡ false → home .end + length bytes ≤ sizeOf N img → Closing (sizeOf N img) ws
       → Follows N (exec N) img (enterWipe (busy home places j (starting id source) bytes)) (map erase ks ++ staying)
-      (idle (ending home (home .end + length bytes)))
+      (idle places (ending home (home .end + length bytes)))
   unfolding enterOpen
   follows-staying t room fit =
       follows-wipe N (sizeOf N img) home shape ks there (omega arith) places j (buffer bytes) (has .wipe) (has .wipes) headerLen id source 0 0 noFrame img
-      staying (idle (ending home (home .end + length bytes))) long
+      staying (idle places (ending home (home .end + length bytes))) long
       (λ n img′ q′ p.
       let r : Record = jobAt home places j (buffer bytes) Wipe (cursor n headerLen id source 0 0) noFrame in
-      subst (λ (b : Bool). Follows N (exec N) img′ (cond b (enter Open r) (enterClose r)) staying (idle (ending home (home .end + length bytes)))) (sym t)
+      subst (λ (b : Bool). Follows N (exec N) img′ (cond b (enter Open r) (enterClose r)) staying (idle places (ending home (home .end + length bytes)))) (sym t)
       (follows-close (sizeOf N img) home shape places j ws bytes (has .closes) (has .close) (has .size) here room fit Wipe (cursor n headerLen id source 0 0)
       noFrame img′ q′))
 
@@ -135,28 +136,31 @@ module _ {N : ℕ} (img : List ℕ) (home : Rest) (places : List ℕ) (j : Job) 
   -- a block is made, of edition d, from one of edition c
   abbrev Moving : Edition → Edition → Type 0
   Moving d c =
-      (fs : List Frame) → j .moves ≡ true → j .target < N → (j .target ≡ home .block → ⊥) → headerLen + total d fs + length bytes ≤ sizeOf N img
+      (fs : List Frame) (after : List ℕ) → placeAll d (endsWith (buffer bytes)) headerLen fs places ≡ after → j .moves ≡ true → j .target < N → (j .target ≡ home .block → ⊥) → headerLen + total d fs + length bytes ≤ sizeOf N img
       → Yields c (block (sizeOf N img) (home .block) (applyAll (sizeOf N img) (map erase ks) img)) (home .end) places (j .since) id source fs
       → Follows N (exec N) img (enterWipe (busy home places j (starting id source) bytes))
       (map erase ks ++ ((onBlock (j .target) (build d (j .time) fs) ++ dropped j (home .block)) ++ onBlock (j .target) (writes (headerLen + total d fs) bytes)))
-      (idle (landing home (j .edition) (j .target) (headerLen + total d fs + length bytes)))
+      (idle after (landing home (j .edition) (j .target) (headerLen + total d fs + length bytes)))
 
   moved : Moving ed was
   unfolding enterOpen
-  moved fs t target apart room y =
+  moved fs after placed t target apart room y =
       let s : ℕ = sizeOf N img in
       let tail : List Step =
       (onBlock (j .target) (build ed (j .time) fs) ++ dropped j (home .block)) ++ onBlock (j .target) (writes (headerLen + total ed fs) bytes) in
-      let done : Record = idle (landing home (j .edition) (j .target) (headerLen + total ed fs + length bytes)) in
+      let done : Record = idle after (landing home (j .edition) (j .target) (headerLen + total ed fs + length bytes)) in
       follows-wipe N s home shape ks there (omega arith) places j (buffer bytes) (has .wipe) (has .wipes) headerLen id source 0 0 noFrame img tail done long
       (λ n img′ q′ p.
       let r : Record = jobAt home places j (buffer bytes) Wipe (cursor n headerLen id source 0 0) noFrame in
       subst (λ (b : Bool). Follows N (exec N) img′ (cond b (enter Open r) (enterClose r)) tail done) (sym t)
       (subst (λ (xs : List Step). Follows N (exec N) img′ (enter Open r) xs done)
       (sym (built ed (j .target) (j .time) fs (dropped j (home .block)) (onBlock (j .target) (writes (headerLen + total ed fs) bytes))))
+      (subst (λ (ps : List ℕ). Follows N (exec N) img′ (enter Open r) (onBlock (j .target) (openWrites ed)
+      ++ (onBlock (j .target) (writes headerLen (encodeAll ed fs)) ++ sealing j (home .block) bytes (headerLen + total ed fs)))
+      (idle ps (landing home (j .edition) (j .target) (headerLen + total ed fs + length bytes)))) placed
       (follows-open s home shape places j bytes (has .size) here target apart header
       (block s (home .block) (applyAll s (map erase ks) img)) fs Wipe n headerLen id source 0 0 noFrame
-      img′ q′ (ap (block s (home .block)) p) y room)))
+      img′ q′ (ap (block s (home .block)) p) y room))))
 
   pub follows-moving : (d c : Edition) → ed ≡ d → was ≡ c → Moving d c
   follows-moving d c e w = subst₂ Moving e w moved

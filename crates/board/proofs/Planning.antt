@@ -29,7 +29,7 @@ use Rattle.wire.specs.declared.Request.{Request}
 use Rattle.wire.specs.declared.Request.the-variants.{Put, Delete, Commit, Abort, Read, Log, Convert}
 use Rattle.wire.specs.declared.Parsed.{Parsed}
 use Rattle.wire.specs.declared.Parsed.the-variants.{Is, Malformed}
-use Rattle.wire.specs.Message.{parse, valueIn, pageLen}
+use Rattle.wire.specs.Message.{parse, valueIn, pageLen, ofReadKind, idIn}
 use Rattle.board.specs.Mount.{nextBlock, replayOf, countsOf}
 use Rattle.board.specs.declared.Phase.{Phase}
 use Rattle.board.specs.declared.Phase.the-variants.{Unmounted, Idle, Busy}
@@ -37,7 +37,7 @@ use Rattle.board.specs.declared.Record.{Record}
 use Rattle.board.specs.Record.{allowed, idle, Out, out, answerOf}
 use Rattle.board.specs.Step.{enterWipe}
 use Rattle.board.specs.Queue.{appendJob, append, serve, serveChange, serveEnd, serveParsed, serveHeld, requestIn, requestOn, Asking, sizeFor}
-use Rattle.board.specs.Queue.{heldFor, movesFor, refuseTo, counted, convertJob, convert, serveConvert}
+use Rattle.board.specs.Queue.{heldFor, movesFor, refuseTo, counted, convertJob, convert, serveConvert, readAt, readParsed, requestBy}
 use Rattle.board.specs.Exec.{exec}
 use Rattle.board.specs.Plan.{Performs, frameWork, convertWork}
 use Rattle.board.specs.Table.{taskFor, appends, endTask, FreshExact, FreshFor}
@@ -50,6 +50,7 @@ use Rattle.board.proofs.Invariant.{StepLands, Ready, InJob}
 use Rattle.board.proofs.Outcomes.{append-worn, append-begins, change-refused, change-goes, end-goes, end-idle, log-short, log-done, change-over}
 use Rattle.board.proofs.Outcomes.{serve-put, serve-delete, serve-commit, serve-abort, serve-log, read-none, read-some, request-length, request-host}
 use Rattle.board.proofs.Outcomes.{request-in, serve-convert, convert-pending, convert-refused, convert-goes, convert-worn, convert-begins, convert-there}
+use Rattle.board.proofs.Outcomes.{ReadCase, misshapen, absent, lost, found, read-case}
 use Rattle.board.proofs.Current.{Roomy, After}
 use Rattle.board.proofs.Keeping.{ready-idle}
 use Rattle.board.proofs.Replies.{standing-of}
@@ -173,16 +174,16 @@ module _ (a : Asking) where
         (λ t. refused refusal.NoRoom (convert-refused a x n t))
         (λ t. over (convert-goes a x n t) (convert-in p n t (x .edition) refl))
 
-    read-met : (i : ObjectId) (v : Option (List ℕ)) → lookup i (replayOf x .objects) ≡ v → Met a (serve a x (Read i))
-    read-met i none l = refused refusal.NoObject (read-none a x i l)
-    read-met i (some v) l = over (read-some a x i v l) (done refl refl refl)
+    scan-met : (i : ObjectId) (v : Option (List ℕ)) → lookup i (replayOf x .objects) ≡ v → Met a (serve a x (Read i))
+    scan-met i none l = refused refusal.NoObject (read-none a x i l)
+    scan-met i (some v) l = over (read-some a x i v l) (done refl refl refl)
 
     serve-met : (q : Request) → parse (a .message) ≡ Is q → Met a (serve a x q)
     serve-met (Put i) p = over (serve-put a x i) (change-met (Put i) p (put i (valueIn (a .message))) refl refl)
     serve-met (Delete i) p = over (serve-delete a x i) (change-met (Delete i) p (delete i) refl refl)
     serve-met Commit p = over (serve-commit a x) (end-met Commit p (commit (a .host)) refl refl)
     serve-met Abort p = over (serve-abort a x) (end-met Abort p (abort (a .host)) refl refl)
-    serve-met (Read i) p = read-met i (lookup i (replayOf x .objects)) refl
+    serve-met (Read i) p = scan-met i (lookup i (replayOf x .objects)) refl
     serve-met (Log Summary) p =
         over (serve-log a x)
         (on-test (ltb (length (a .reply)) pageLen)
@@ -199,10 +200,24 @@ module _ (a : Asking) where
     held-met none e = refused refusal.Stale refl
     held-met (some x) e = parsed-met ok k x e (parse (a .message)) refl
 
+    read-met : (i : ObjectId) → ReadCase a i → Met a (readAt a i)
+    read-met i (misshapen t q) = refused refusal.Stale q
+    read-met i (absent t z q) = refused refusal.NoObject q
+    read-met i (lost t z v q) = refused refusal.Stale q
+    read-met i (found x t z v q) = over q (done refl refl refl)
+
+    read-parsed : (p : Parsed) → Met a (readParsed a p)
+    read-parsed Malformed = refused refusal.Malformed refl
+    read-parsed (Is q) = read-met (idIn (a .message)) (read-case a (idIn (a .message)))
+
+    kind-met : (b : Bool) → Met a (requestBy a b)
+    kind-met true = read-parsed (parse (a .message))
+    kind-met false = held-met (heldFor a) refl
+
     phase-met : (p : Phase) → Met a (requestIn a p)
     phase-met (Busy s) = refused refusal.Busy refl
     phase-met Unmounted = refused refusal.NoStore refl
-    phase-met Idle = held-met (heldFor a) refl
+    phase-met Idle = kind-met (ofReadKind (a .message))
 
   pub request-met : Met a (requestOn a)
   request-met =
@@ -238,8 +253,8 @@ pub record Converts (a : Asking) (o : Out) : Type 0 where
 held-holds : {s : ℕ} (a : Asking) {x : Journal} → Sized (a .blocks) s (a .image) → Bytes (a .image) → heldFor a ≡ some x
     → AsRecorded (a .blocks) s (a .image) (a .board) x
 held-holds {s} a {x} z by e =
-    let v : (w : Ready (a .blocks) s (a .image) (idle (a .board .rest))) × (w .journal ≡ x) = held-inv (a .board) z by e in
-    let w : AsRecorded (a .blocks) s (a .image) (idle (a .board .rest)) x = ready-holds z (v .0) (v .1) in
+    let v : (w : Ready (a .blocks) s (a .image) (idle (a .board .places) (a .board .rest))) × (w .journal ≡ x) = held-inv (a .board) z by e in
+    let w : AsRecorded (a .blocks) s (a .image) (idle (a .board .places) (a .board .rest)) x = ready-holds z (v .0) (v .1) in
     record { alone = w .alone; is-clean = w .is-clean; ends = w .ends; long = w .long; blocks = w .blocks; edition-is = w .edition-is }
 
 module _ {s : ℕ} {a : Asking} (z : Sized (a .blocks) s (a .image)) (by : Bytes (a .image)) (bm : Bytes (a .message)) (y : Asked a) where
@@ -263,7 +278,7 @@ module _ {s : ℕ} {a : Asking} (z : Sized (a .blocks) s (a .image)) (by : Bytes
 
   roomy : Roomy s (x .edition) (replayOf x)
   roomy =
-      let v : (w : Ready N s img (idle (r .rest))) × (w .journal ≡ x) = held-inv r z by (y .is-held) in
+      let v : (w : Ready N s img (idle (r .places) (r .rest))) × (w .journal ≡ x) = held-inv r z by (y .is-held) in
       subst (λ (w : Journal). Roomy s (w .edition) (replayOf w)) (v .1) (v .0 .room)
 
   fitting : Fitting s (x .edition) (replayOf x) f
@@ -296,7 +311,7 @@ module _ {s : ℕ} {a : Asking} (z : Sized (a .blocks) s (a .image)) (by : Bytes
         is-asked = messages-exact (a .message) (y .asked) .0 (y .is-asked);
         is-frame = y .is-frame;
         follows = follows-frame img r x f (z .count) (holds .long) (holds .blocks) (holds .alone .there) j (sym (holds .ends)) (holds .edition-is)
-            (omega (arith, fitting .fits, size-of z));
+            (omega (arith, fitting .fits, size-of z)) (appendable .legal);
         short = frame-short (sizeOf N img) (nextBlock N (r .rest .block)) (counted (r .rest) x f) x f (omega (arith, fitting .fits, size-of z));
       }
 
@@ -313,7 +328,7 @@ module _ {s : ℕ} {a : Asking} (z : Sized (a .blocks) s (a .image)) (by : Bytes
 
   convertible : Convertible s (a .board) (y .holding)
   convertible =
-      let v : (w : Ready (a .blocks) s (a .image) (idle (a .board .rest))) × (w .journal ≡ y .holding) = held-inv (a .board) z by (y .is-held) in
+      let v : (w : Ready (a .blocks) s (a .image) (idle (a .board .places) (a .board .rest))) × (w .journal ≡ y .holding) = held-inv (a .board) z by (y .is-held) in
       record {
         young = omega (arith, eqb-false (y .holding .time) lastTime (y .not-worn), holds-convert .alone .contents .layout .time-hi);
         fits = omega (arith, size-of z, ltb-false (sizeFor a) (used edition.Second (replayOf (y .holding))) (y .has-room));

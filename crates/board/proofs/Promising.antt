@@ -29,13 +29,15 @@ use Rattle.wire.specs.declared.Request.the-variants.{Put, Delete, Commit, Abort
 use Rattle.wire.specs.declared.Parsed.the-variants.{Is}
 use Rattle.wire.specs.Answer.{numberOf}
 use Rattle.wire.specs.Message.{parse, valueIn, pageLen}
+use Rattle.board.proofs.Reading.{one-request, as-before}
+use Rattle.board.proofs.ReadsLocal.{reads}
 use Rattle.board.specs.declared.Phase.{Phase}
 use Rattle.board.specs.declared.Phase.the-variants.{Unmounted, Idle, Busy}
 use Rattle.board.specs.declared.Record.{Record}
 use Rattle.board.specs.Record.{allowed, Stretch, noStretch, Out}
 use Rattle.board.specs.Mount.{Store, mountOn, formatOn, replayOf}
 use Rattle.board.specs.Queue.{placeOf, append, serve, serveChange, serveEnd, requestOn, Asking, asking, sizeFor, heldFor, movesFor, refuseTo, doneAt}
-use Rattle.board.specs.Queue.{convertJob, convert, serveConvert}
+use Rattle.board.specs.Queue.{convertJob, convert, serveConvert, serveParsed}
 use Rattle.board.specs.Exec.{Call, request, step, mount, format, exec}
 use Rattle.board.specs.Plan.{Work, Performs, formatWork, mountWork, frameWork, convertWork}
 use Rattle.board.specs.Table.{Task, idles, appends, converts, endTask, taskFor, Fresh, FreshExact, Exactly, linesOf, FreshFor, convertTask}
@@ -54,7 +56,7 @@ use Rattle.board.proofs.Demand2.{one-store}
 use Rattle.board.proofs.Accepted.{follows-format}
 use Rattle.board.proofs.Outcomes.{append-worn, append-begins, change-refused, change-goes, end-goes, end-idle, log-short, log-done, change-over}
 use Rattle.board.proofs.Outcomes.{serve-put, serve-delete, serve-commit, serve-abort, serve-log, read-none, read-some, request-length, request-host}
-use Rattle.board.proofs.Outcomes.{request-in, request-served, mount-length, format-length, format-begins, step-resting, serve-convert, convert-pending}
+use Rattle.board.proofs.Outcomes.{request-in, mount-length, format-length, format-begins, step-resting, serve-convert, convert-pending}
 use Rattle.board.proofs.Outcomes.{convert-refused, convert-goes, convert-worn, convert-begins, convert-there}
 use Rattle.board.proofs.Planning.{Appends, Converts, Asked, AskedConvert, convert-job-begins, begunBy, frame-begins, requests-planned}
 use Rattle.board.proofs.Fitting.{the-frame, no-convert}
@@ -62,7 +64,7 @@ use Rattle.board.proofs.Lengths.{length-format}
 use Rattle.wire.proofs.Sentences.{messages-exact}
 use Rattle.board.proofs.Freshness.{fresh-exact}
 use Rattle.board.proofs.Sentences.{stretch-exact}
-use Rattle.board.proofs.Tabling.{request-lines, step-lines, format-lines, same-request, same-held}
+use Rattle.board.proofs.Tabling.{request-lines, step-lines, format-lines, same-held}
 use Rattle.board.proofs.TablingMounts.{mount-lines, same-store, mounts-current, mount-names}
 use Rattle.board.proofs.Telling.{told, silent}
 
@@ -204,7 +206,8 @@ module _ (a : Asking) (by : Bytes (a .image)) (bm : Bytes (a .message)) (x : Jou
     phase-met : leb (a .host .0) hostMax ≡ true → (q : Request) → parse (a .message) ≡ Is q → (s : Phase) → a .board .phase ≡ s → Met q (requestOn a)
     phase-met k q p (Busy s) d = turned-down q refusal.Busy (request-in a ok k d)
     phase-met k q p Unmounted d = turned-down q refusal.NoStore (request-in a ok k d)
-    phase-met k q p Idle d = over q (request-served a ok k x q d e p) (serve-met (leb-true (a .host .0) hostMax k) q p)
+    phase-met k q p Idle d =
+        over q (as-before a x by ok (leb-true (a .host .0) hostMax k) d e ∙ ap (serveParsed a x) p) (serve-met (leb-true (a .host .0) hostMax k) q p)
 
     request-met : (q : Request) → parse (a .message) ≡ Is q → Met q (requestOn a)
     request-met q p =
@@ -251,11 +254,11 @@ module _ (N : ℕ) (img : List ℕ) (r : Record) (by : Bytes img) where
       go : Appends b o ⊎ Converts b o → Plans N img r (request h m reply) o x f
       go (inl w) =
           let c : w .holding ≡ x = same-held N img r by (length-accepted b a) (w .holding) x (w .is-held) v in
-          let d : w .asked ≡ q = same-request m (w .asked) q (w .is-asked) k in
+          let d : w .asked ≡ q = one-request m (w .asked) q (w .is-asked) k in
           let e : w .frame ≡ f = the-frame (sym (w .is-frame) ∙ ap₂ (taskFor h m) c d ∙ g) in
           subst₂ (Plans N img r (request h m reply) o) c e (w .follows, w .short)
       go (inr w) =
-          let d : Convert ≡ q = same-request m Convert q (w .is-asked) k in
+          let d : Convert ≡ q = one-request m Convert q (w .is-asked) k in
           no-convert (x .edition) (ap (taskFor h m x) d ∙ g)
 
   convert-does : (h : Host) (m reply : List ℕ) (x : Journal) (q : Request) → Bytes m → Fresh N img r x → Means m q → taskFor h m x q ≡ converts
@@ -275,7 +278,7 @@ module _ (N : ℕ) (img : List ℕ) (r : Record) (by : Bytes img) where
       go : Appends b o ⊎ Converts b o → Does N img (request h m reply) (o .board) (convertWork N img r x)
       go (inl w) =
           let c : w .holding ≡ x = same-held N img r by (length-accepted b a) (w .holding) x (w .is-held) v in
-          let d : w .asked ≡ q = same-request m (w .asked) q (w .is-asked) k in
+          let d : w .asked ≡ q = one-request m (w .asked) q (w .is-asked) k in
           let e : converts ≡ appends (w .frame) = sym g ∙ ap₂ (taskFor h m) (sym c) (sym d) ∙ w .is-frame in
           let z : _≡_ {A = ℕ} 0 1 = cc in
           absurd (omega arith)
@@ -330,6 +333,7 @@ calls {N} =
       one-step = at-most-one-step N;
       silent = silent N;
       serves = λ img r h m reply. serves (asking N img r h m reply);
+      reads = λ img r h m reply i by bm w t. reads (asking N img r h m reply) i w t;
       jobs = λ img r c w by bc j a. job-does N img r by c w bc j a;
       ends = forged-ends N;
     }

@@ -15,7 +15,7 @@ use Rattle.flash.specs.Flash.{apply, sizeOf, within}
 use Rattle.flash.proofs.Cases.{on-test, or-left, or-no-left, or-no-right}
 use Rattle.frame.specs.declared.ObjectId.{ObjectId}
 use Rattle.frame.specs.Frame.{hostMax, Change, put, delete, Frame, change, commit, abort}
-use Rattle.journal.specs.Replay.{lookup, isOpen, Entry}
+use Rattle.journal.specs.Replay.{isOpen, Entry}
 use Rattle.journal.specs.Block.{Journal, lastTime, BlockState, blank, inProgress, valid, foreign}
 use Rattle.journal.specs.Room.{noRoom, hostFull, used}
 use Rattle.wire.specs.declared.Answer.{Answer}
@@ -27,7 +27,8 @@ use Rattle.wire.specs.declared.Request.{Request}
 use Rattle.wire.specs.declared.Request.the-variants.{Put, Delete, Commit, Abort, Read, Log, Convert}
 use Rattle.wire.specs.declared.Parsed.{Parsed}
 use Rattle.wire.specs.declared.Parsed.the-variants.{Is, Malformed}
-use Rattle.wire.specs.Message.{parse, valueIn, pageLen}
+use Rattle.wire.specs.Message.{parse, valueIn, pageLen, ofReadKind, idIn}
+use Rattle.board.proofs.Reading.{no-read}
 use Rattle.board.specs.declared.Phase.{Phase}
 use Rattle.board.specs.declared.Phase.the-variants.{Unmounted, Idle, Busy}
 use Rattle.board.specs.declared.Record.{Record}
@@ -36,17 +37,19 @@ use Rattle.board.specs.Step.{sameShape, enterWipe, action, advance, step
 use Rattle.board.specs.Mount.{allFound, anyForeign, Found, Store, stores, equalTimes, newest, wipeList, upkeep, transfers, mountJob, replayOf, timeOf}
 use Rattle.board.specs.Mount.{isForeign, orForeign, noneValid, mountAt, mountStores, mountOn, formatJob, formatOn}
 use Rattle.board.specs.Queue.{appendJob, append, serveChange, serveEnd, serve, serveParsed, serveHeld, requestIn, requestOn, Asking, asking}
-use Rattle.board.specs.Queue.{sizeFor, heldFor, movesFor, convertJob, convert, serveConvert}
+use Rattle.board.specs.Queue.{sizeFor, heldFor, movesFor, convertJob, convert, serveConvert, readAt, readParsed, requestBy}
 use Rattle.board.specs.Exec.{Call, request, step, mount, format, exec}
-use Rattle.board.specs.Table.{isBusy, isNone, appends, endTask, convertTask}
+use Rattle.board.specs.Table.{isBusy, appends, endTask, convertTask, taskFor}
 use Rattle.board.specs.Demand1.{Unchanged, OneStep, ImageAfter, Rests}
 use Rattle.board.proofs.Checks.{Check, check, firstOf, isUnmounted, isMalformed, worn, heldChecks, laterChecks, requestChecks, unclear}
 use Rattle.board.proofs.Checks.{outside, noStore, wornStore, mountChecks, checks, refusalIn, isSome, pendingRule, hostFullFor, noRoomFor}
+use Rattle.board.proofs.Checks.{readChecks, fromStale, shortReply}
 use Rattle.board.proofs.Outcomes.{append-worn, append-begins, change-refused, change-goes, end-goes, end-idle, log-short, log-done, change-over}
-use Rattle.board.proofs.Outcomes.{serve-put, serve-delete, serve-commit, serve-abort, serve-log, read-none, read-some}
+use Rattle.board.proofs.Outcomes.{serve-put, serve-delete, serve-commit, serve-abort, serve-log}
 use Rattle.board.proofs.Outcomes.{request-length, request-host, request-in, mount-length, mount-stores, mount-worn}
 use Rattle.board.proofs.Outcomes.{mount-begins, format-length, format-begins, step-resting, step-outside, step-goes}
 use Rattle.board.proofs.Outcomes.{serve-convert, convert-pending, convert-refused, convert-goes, convert-worn, convert-begins, convert-there}
+use Rattle.board.proofs.Outcomes.{ReadCase, misshapen, absent, lost, found, read-case}
 
 -- ---- what is claimed of a call's outcome, against the lines of the table that are left
 
@@ -128,19 +131,28 @@ module _ (a : Asking) where
       (λ e. over (end-goes a x f e) (rw e (append-asked x f)))
       (λ e. over (end-idle a x f e) (passes (rw e) (accepted refl refl)))
 
-  read-asked : (x : Journal) (i : ObjectId) (v : Option (List ℕ)) → lookup i (replayOf x .objects) ≡ v
-      → Asked (heldChecks a x (Read i)) (serve a x (Read i))
-  read-asked x i none e = stops refl (rw e) (read-none a x i e)
-  read-asked x i (some v) e = over (read-some a x i v e)
-      (passes (rw e) (passes refl (passes refl (passes refl (passes refl (passes refl (accepted refl refl)))))))
+  -- a read by its place
+  read-asked : (i : ObjectId) → Asked (readChecks a i) (readAt a i)
+  read-asked i = go (read-case a i)
+    where
+      go : ReadCase a i → Asked (readChecks a i) (readAt a i)
+      go (misshapen t e) = stops refl (rw t) e
+      go (absent t z e) = passes (rw (t, z)) (stops refl z e)
+      go (lost t z v e) = stops refl (rw (t, z, v)) e
+      go (found x t z v e) =
+          over e (passes (rw (t, z, v)) (passes z (passes refl (passes refl (passes refl (passes refl (passes refl (accepted refl refl))))))))
 
-  log-asked : (x : Journal) → Asked (heldChecks a x (Log Summary)) (serve a x (Log Summary))
+  read-parsed : (p : Parsed) → Asked (check refusal.Malformed (isMalformed p) ∷ laterChecks a true (heldFor a) p) (readParsed a p)
+  read-parsed Malformed = stops refl refl refl
+  read-parsed (Is q) = passes refl (read-asked (idIn (a .message)))
+
+  log-asked : (x : Journal) → Asked (check refusal.ShortReply (shortReply a (Log Summary)) ∷ check refusal.Pending false ∷ check refusal.HostFull false
+      ∷ check refusal.NoRoom false ∷ check refusal.Worn false ∷ []) (serve a x (Log Summary))
   log-asked x =
       over (serve-log a x)
-      (passes refl
       (on-test (ltb (length (a .reply)) pageLen)
       (λ e. stops refl e (log-short a x e))
-      (λ e. over (log-done a x e) (passes e (passes refl (passes refl (passes refl (passes refl (accepted refl refl)))))))))
+      (λ e. over (log-done a x e) (passes e (passes refl (passes refl (passes refl (passes refl (accepted refl refl))))))))
 
   convert-in : (x : Journal) (d : Edition) → Asked (check refusal.Worn (worn a x (convertTask d)) ∷ []) (convert a x d)
   convert-in x edition.First =
@@ -161,30 +173,42 @@ module _ (a : Asking) where
       (λ t. stops refl t (convert-refused a x p t))
       (λ t. over (convert-goes a x p t) (passes t (convert-in x (x .edition))))))
 
-  serve-asked : (x : Journal) (q : Request) → Asked (heldChecks a x q) (serve a x q)
-  serve-asked x (Put i) = over (serve-put a x i) (passes refl (passes refl (passes refl (change-asked x (put i (valueIn (a .message)))))))
-  serve-asked x (Delete i) = over (serve-delete a x i) (passes refl (passes refl (passes refl (change-asked x (delete i)))))
-  serve-asked x Commit = over (serve-commit a x) (passes refl (passes refl (passes refl (passes refl (passes refl (end-asked x (commit (a .host))))))))
-  serve-asked x Abort = over (serve-abort a x) (passes refl (passes refl (passes refl (passes refl (passes refl (end-asked x (abort (a .host))))))))
-  serve-asked x (Read i) = read-asked x i (lookup i (replayOf x .objects)) refl
-  serve-asked x (Log Summary) = log-asked x
-  serve-asked x Convert = over (serve-convert a x) (passes refl (passes refl (convert-asked x (replayOf x .pending) refl)))
+  -- any other request
+  serve-asked : ofReadKind (a .message) ≡ false → (x : Journal) (q : Request) → parse (a .message) ≡ Is q → Asked (heldChecks a x q) (serve a x q)
+  serve-asked k x q p = passes refl (passes refl (go q p))
+    where
+      Rest : Request → List Check
+      Rest q =
+          check refusal.ShortReply (shortReply a q) ∷ check refusal.Pending (pendingRule x q) ∷ check refusal.HostFull (hostFullFor a x q)
+          ∷ check refusal.NoRoom (noRoomFor a x q) ∷ check refusal.Worn (worn a x (taskFor (a .host) (a .message) x q)) ∷ []
 
-  parsed-asked : (x : Journal) (p : Parsed) → Asked (check refusal.Malformed (isMalformed p) ∷ laterChecks a (some x) p) (serveParsed a x p)
-  parsed-asked x Malformed = stops refl refl refl
-  parsed-asked x (Is q) = passes refl (serve-asked x q)
+      go : (q : Request) → parse (a .message) ≡ Is q → Asked (Rest q) (serve a x q)
+      go (Put i) p = over (serve-put a x i) (passes refl (passes refl (change-asked x (put i (valueIn (a .message))))))
+      go (Delete i) p = over (serve-delete a x i) (passes refl (passes refl (change-asked x (delete i))))
+      go Commit p = over (serve-commit a x) (passes refl (passes refl (passes refl (passes refl (end-asked x (commit (a .host)))))))
+      go Abort p = over (serve-abort a x) (passes refl (passes refl (passes refl (passes refl (end-asked x (abort (a .host)))))))
+      go (Read i) p = absurd (no-read (a .message) k i p)
+      go (Log Summary) p = log-asked x
+      go Convert p = over (serve-convert a x) (passes refl (convert-asked x (replayOf x .pending) refl))
 
-  abbrev fromStale : Option Journal → List Check
-  fromStale x = check refusal.Stale (isNone x) ∷ check refusal.Malformed (isMalformed (parse (a .message))) ∷ laterChecks a x (parse (a .message))
+  parsed-asked : ofReadKind (a .message) ≡ false → (x : Journal) (p : Parsed) → parse (a .message) ≡ p
+      → Asked (check refusal.Malformed (isMalformed p) ∷ laterChecks a false (some x) p) (serveParsed a x p)
+  parsed-asked k x Malformed e = stops refl refl refl
+  parsed-asked k x (Is q) e = passes refl (serve-asked k x q e)
 
-  held-asked : (x : Option Journal) → Asked (fromStale x) (serveHeld a x)
-  held-asked none = stops refl refl refl
-  held-asked (some x) = passes refl (parsed-asked x (parse (a .message)))
+  held-asked : ofReadKind (a .message) ≡ false → (x : Option Journal) → Asked (fromStale a false x (parse (a .message))) (serveHeld a x)
+  held-asked k none = stops refl refl refl
+  held-asked k (some x) = passes refl (parsed-asked k x (parse (a .message)) refl)
 
-  phase-asked : (p : Phase) → Asked (check refusal.Busy (isBusy p) ∷ check refusal.NoStore (isUnmounted p) ∷ fromStale (heldFor a)) (requestIn a p)
+  kind-asked : (b : Bool) → ofReadKind (a .message) ≡ b → Asked (fromStale a b (heldFor a) (parse (a .message))) (requestBy a b)
+  kind-asked true k = passes refl (read-parsed (parse (a .message)))
+  kind-asked false k = held-asked k (heldFor a)
+
+  phase-asked : (p : Phase) → Asked (check refusal.Busy (isBusy p) ∷ check refusal.NoStore (isUnmounted p)
+      ∷ fromStale a (ofReadKind (a .message)) (heldFor a) (parse (a .message))) (requestIn a p)
   phase-asked (Busy s) = stops refl refl refl
   phase-asked Unmounted = passes refl (stops refl refl refl)
-  phase-asked Idle = passes refl (passes refl (held-asked (heldFor a)))
+  phase-asked Idle = passes refl (passes refl (kind-asked (ofReadKind (a .message)) refl))
 
   request-asked : Asked (requestChecks a) (requestOn a)
   request-asked =

@@ -34,7 +34,7 @@ use Rattle.wire.specs.Message.{pageLen}
 use Rattle.board.specs.declared.Record.{Record}
 use Rattle.board.specs.Record.{Out, idle, readsIn}
 use Rattle.board.specs.Step.{sameShape}
-use Rattle.board.specs.Mount.{replayOf}
+use Rattle.board.specs.Mount.{replayOf, placesIn}
 use Rattle.board.specs.Queue.{held, heldBy, heldIn, heldIf, fitsRecord, sameImage, othersBlank, stretchOf, placeOf, serve, Asking, asking, doneAt}
 use Rattle.board.specs.Claim.{ReadSays, LogSays}
 use Rattle.board.proofs.Images.{Sized, size-of, sized-block}
@@ -53,19 +53,19 @@ blank-beside {N} s k img e o = others-are N k img (λ j h n. ap (λ (w : ℕ). a
 pub held-ready : {N : ℕ} {s : ℕ} {img : List ℕ} {r : Record} → Sized N s img → (y : Ready N s img r) → held N img r ≡ some (y .journal)
 unfolding held
 held-ready {N} {s} {img} {r} z y =
-    ap (held N img) (y .is) ∙ ap (λ (b : Bool). heldBy N b img (idle (y .stands))) same
-    ∙ ap (λ (n : ℕ). heldIn n (y .stands) (blockState (block n (y .stands .block) img))) (size-of z)
-    ∙ ap (heldIn s (y .stands)) (contents-valid (y .contents)) ∙ ap₂ (λ (b : Bool) (c : Tail). heldIf b c (y .journal)) fit (y .is-clean)
+    ap (held N img) (y .is) ∙ ap (λ (b : Bool). heldBy N b img (idle (placesIn (y .journal)) (y .stands))) same
+    ∙ ap (λ (n : ℕ). heldIn n (idle (placesIn (y .journal)) (y .stands)) (blockState (block n (y .stands .block) img))) (size-of z)
+    ∙ ap (heldIn s (idle (placesIn (y .journal)) (y .stands))) (contents-valid (y .contents)) ∙ ap₂ (λ (b : Bool) (c : Tail). heldIf b c (y .journal)) fit (y .is-clean)
   where
-    same : sameImage N img (idle (y .stands)) ≡ true
+    same : sameImage N img (idle (placesIn (y .journal)) (y .stands)) ≡ true
     same =
-        and-both (sameShape N (length img) (idle (y .stands))) (ltb (y .stands .block) N && othersBlank N (y .stands .block) img (blockNumbers N))
-        (same-shape (length img) (idle (y .stands)) (y .long) (sym (y .blocks)))
+        and-both (sameShape N (length img) (idle (placesIn (y .journal)) (y .stands))) (ltb (y .stands .block) N && othersBlank N (y .stands .block) img (blockNumbers N))
+        (same-shape (length img) (idle (placesIn (y .journal)) (y .stands)) (y .long) (sym (y .blocks)))
         (and-both (ltb (y .stands .block) N) (othersBlank N (y .stands .block) img (blockNumbers N)) (lt-ltb (y .stands .block) N (y .there))
         (blank-beside s (y .stands .block) img (size-of z) (y .others)))
 
-    fit : fitsRecord s (y .stands) (y .journal) ≡ true
-    fit = fits-record (record { edition-is = sym (y .edition-is); ends = sym (y .ends); counts = sym (y .counts); room = y .room })
+    fit : fitsRecord s (idle (placesIn (y .journal)) (y .stands)) (y .journal) ≡ true
+    fit = fits-record (record { edition-is = sym (y .edition-is); ends = sym (y .ends); counts = sym (y .counts); room = y .room; places = refl })
 
 -- ---- reads
 

@@ -24,15 +24,16 @@ use Rattle.wire.specs.declared.Parsed.{Parsed}
 use Rattle.wire.specs.declared.Parsed.the-variants.{Is, Malformed}
 use Rattle.wire.specs.Message.{parse}
 use Rattle.wire.proofs.Parsing.{put-parsed, delete-parsed, read-parsed}
+use Rattle.board.proofs.Reading.{as-before}
 use Rattle.board.specs.declared.Phase.{Phase}
 use Rattle.board.specs.declared.Phase.the-variants.{Unmounted, Idle, Busy}
 use Rattle.board.specs.declared.Record.{Record}
 use Rattle.board.specs.Record.{Out}
-use Rattle.board.specs.Queue.{serve, requestOn, Asking, asking, refuseTo}
+use Rattle.board.specs.Queue.{serve, requestOn, Asking, asking, refuseTo, serveParsed}
 use Rattle.board.specs.Book.{Book, enterRequest, enterParsed}
 use Rattle.board.specs.Claim.{Never, RequestSays, ReadSays, Track, trackParsed, trackRequest}
 use Rattle.board.proofs.Invariant.{IdleBook, Inv}
-use Rattle.board.proofs.Outcomes.{request-host, request-in, request-malformed, request-served}
+use Rattle.board.proofs.Outcomes.{request-host, request-in}
 use Rattle.board.proofs.Keeping.{on-phase}
 use Rattle.board.proofs.Replies.{held-ready, read-says, log-says}
 use Rattle.board.proofs.Serving.{entered, Served, Legal, served, tracks}
@@ -89,18 +90,19 @@ module _ {N : ℕ} {s : ℕ} {img : List ℕ} {r : Record} {b : Book} {u : Track
   idle-says y (Log Summary) e = log-says (v .sized) (y .ready) h m reply (b .objects) (y .objects)
   idle-says y Convert e = convert-says (v .sized) y h m reply
 
+  -- as the store before served it
+  before : (y : IdleBook N s u img r b) → r .phase ≡ Idle → leb (h .0) hostMax ≡ true → requestOn a ≡ serveParsed a (y .ready .journal) (parse m)
+  before y e t = as-before a (y .ready .journal) (v .bytes) (v .sized .ok) (leb-true (h .0) hostMax t) e (held-ready (v .sized) (y .ready))
+
   on-idle : leb (h .0) hostMax ≡ true → r .phase ≡ Idle → IdleBook N s u img r b → Is-had (requestOn a)
   on-idle t e y = go (parse m) refl
     where
       x : Journal
       x = y .ready .journal
 
-      k : h .0 ≤ hostMax
-      k = leb-true (h .0) hostMax t
-
       go : (p : Parsed) → parse m ≡ p → Is-had (requestOn a)
       go Malformed q =
-          subst Is-had (sym (request-malformed a (v .sized .ok) t (y .ready .journal) e (held-ready (v .sized) (y .ready)) q)) (
+          subst Is-had (sym (before y e t ∙ ap (serveParsed a x) q)) (
             (v, λ c. (let w : _≡_ {A = ℕ} 0 1 = cc in omega arith), λ c. (let w : _≡_ {A = ℕ} 0 1 = cc in omega arith)),
             λ i j. subst (λ (p : Parsed). RequestSays r p reply (refuseTo a refusal.Malformed) b) (sym q) refl,
           )
@@ -108,7 +110,7 @@ module _ {N : ℕ} {s : ℕ} {img : List ℕ} {r : Record} {b : Book} {u : Track
           let o : Out = serve a (y .ready .journal) w in
           let z : Served N s b u h m w o = served u (v .sized) (v .bytes) y reply h (leb-true (h .0) hostMax t) m w
           (legal (x .edition) h m w (leb-true (h .0) hostMax t) by q) in
-          subst Is-had (sym (request-served a (v .sized .ok) t (y .ready .journal) w e (held-ready (v .sized) (y .ready)) q)) (
+          subst Is-had (sym (before y e t ∙ ap (serveParsed a x) q)) (
             (subst₂ (Inv N s (o .image) (o .board)) (entered-is b h m w (o .answer) q) (tracks-is s u b m w (o .answer) q) (z .0), z .1, z .2),
             λ i j. subst (λ (p : Parsed). RequestSays r p reply o b) (sym q) (idle-says y w q),
           )

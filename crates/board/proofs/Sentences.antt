@@ -1,9 +1,8 @@
 -- The frame that a request appends, the steps of each job and a read's stretch are as document 01 words them.
 use mathlib.Core.Path.{_≡_, refl, sym, ap, subst, _∙_, ap₂}
 use mathlib.Core.List.{List, [], _∷_, _++_, map, append-assoc, map-append}
-use mathlib.Core.Logic.{inl, inr}
 use mathlib.Core.Option.{some}
-use mathlib.Core.Bool.{Bool, true}
+use mathlib.Core.Bool.{Bool, true, cond}
 use Prim.Native.Nat.{ℕ, zero, suc, _+_, _-_, _*_, _/_, _%_, _≤_, _<_}
 use native.Mathlib.Omega.{arith}
 use lib.ListN.{length, getD, drop, length-append, length-drop, length-map, List·getD-append}
@@ -17,25 +16,26 @@ use Rattle.flash.specs.Flash.{blockNumbers, sizeIn, Step, program, erase, block
 use Rattle.flash.proofs.Sizes.{size-is}
 use Rattle.flash.proofs.Programming.{length-writes, writes-at}
 use Rattle.frame.specs.Frame.{put, delete, change, commit, abort, encode, encodeAll, frameLen, Frame}
-use Rattle.frame.specs.Reader.{Tail}
 use Rattle.frame.specs.ByKind.{withCrc}
 use Rattle.frame.proofs.ByKind as kinds
 use Rattle.frame.proofs.Encode.{length-encode, length-all}
-use Rattle.journal.specs.Replay.{Entry, State, framesOf, isOpen, settledOnly}
+use Rattle.journal.specs.Replay.{State, framesOf, isOpen, settledOnly}
 use Rattle.journal.specs.Block.{Journal, headerLen, lastTime, sealWrites, build, openWrites}
-use Rattle.journal.specs.Laws.{byEdition, pendingAfter}
+use Rattle.journal.specs.Laws.{byEdition, pendingAfter, PlacesAre}
 use Rattle.journal.proofs.Lists.{open-none}
 use Rattle.journal.proofs.Room.{frames-total, claimed-settled}
 use Rattle.journal.proofs.ReplayLaws.{order-laws, used-exact}
 use Rattle.journal.proofs.Sources.{place-exact}
+use Rattle.journal.specs.Index.{placesOf}
+use Rattle.board.proofs.Formatting.{none-placed}
 use Rattle.board.specs.Mount.{nextBlock, numbersBut, formatOrder, replayOf, claimedOf}
 use Rattle.board.specs.Record.{allowed, idle, landing}
-use Rattle.board.specs.Queue.{stretchOf}
+use Rattle.board.specs.Queue.{stretchOf, counted}
 use Rattle.board.specs.Table.{endTask, convertTask, appends}
-use Rattle.board.specs.Plan.{onBlock, transferPlan, formatWork, appendPlan}
+use Rattle.board.specs.Plan.{onBlock, transferPlan, formatWork, appendPlan, Work, movedWork, stayedWork}
 use Rattle.board.specs.CutFormat.{Beside}
 use Rattle.board.specs.Sentences.{FrameExact, NeedsExact, Programs, NextOf, following, round, TransferExact, AppendExact, StretchExact}
-use Rattle.board.specs.Sentences.{firstHeader, ByNumber, LastIs, NewestAt, FormatExact, taskBytes, ConvertExact}
+use Rattle.board.specs.Sentences.{firstHeader, ByNumber, LastIs, NewestAt, FormatExact, taskBytes, ConvertExact, PlacesExact}
 use Rattle.board.proofs.Numbers.{next-up, next-round, length-numbers, number-at, length-but, but-below, but-above}
 use Rattle.board.proofs.Lengths.{length-transfer, length-format}
 use Rattle.board.proofs.Order.{beside-of, StateOf, Newest, order-last, order-rises}
@@ -246,7 +246,24 @@ convert-exact =
       count = λ N img r x.
           length-transfer edition.Second (nextBlock N (r .rest .block)) (r .rest .block) x (settledOnly (replayOf x))
           ∙ claimed-settled edition.Second (replayOf x) ∙ used-exact .used-is edition.Second (replayOf x);
-      last = λ N j img r x e. ap₂ (λ (k n : ℕ). idle (landing (r .rest) 2 k n)) (next-of e) (used-exact .used-is edition.Second (replayOf x));
+      places = λ N img r x. place-exact .places-are edition.Second (framesOf (settledOnly (replayOf x)));
+      last = λ N j img r x e. ap₂ (λ (k n : ℕ). idle (placesOf edition.Second (framesOf (settledOnly (replayOf x)))) (landing (r .rest) 2 k n)) (next-of e) (used-exact .used-is edition.Second (replayOf x));
+    }
+
+-- ---- the places
+
+pub places-exact : PlacesExact
+places-exact =
+    record {
+      stays = λ N img r x f l. subst (λ (w : Work). PlacesAre (x .edition) (w .last .places) (x .frames ++ (f ∷ [])))
+          (sym (ap (λ (b : Bool). cond b (movedWork (nextBlock N (r .rest .block)) (counted (r .rest) x f) x f) (stayedWork (counted (r .rest) x f) x f))
+          (le-ltb (sizeOf N img) (r .rest .end + frameLen (x .edition) f) (omega (arith, l, length-encode (x .edition) f)))))
+          (place-exact .places-are (x .edition) (x .frames ++ (f ∷ [])));
+      moves = λ N img r x f l. subst (λ (w : Work). PlacesAre (x .edition) (w .last .places) (framesOf (replayOf x) ++ (f ∷ [])))
+          (sym (ap (λ (b : Bool). cond b (movedWork (nextBlock N (r .rest .block)) (counted (r .rest) x f) x f) (stayedWork (counted (r .rest) x f) x f))
+          (lt-ltb (sizeOf N img) (r .rest .end + frameLen (x .edition) f) (omega (arith, l, length-encode (x .edition) f)))))
+          (place-exact .places-are (x .edition) (framesOf (replayOf x) ++ (f ∷ [])));
+      formatted = λ N img. subst (λ (ps : List ℕ). PlacesAre edition.First ps []) none-placed (place-exact .places-are edition.First []);
     }
 
 -- ---- a read's stretch

@@ -1,27 +1,28 @@
 -- A mount's steps are as documents 01 and 02 word them: its erases, then nothing, a torn frame closed and a reset, or a transfer.
 use mathlib.Core.Path.{_≡_, refl, sym, ap, ap₂, subst, _∙_}
-use mathlib.Core.List.{List, [], _∷_, _++_, append-nil, map}
-use mathlib.Core.Logic.{_⊎_, inl, inr}
+use mathlib.Core.List.{List, [], _∷_, _++_, append-nil}
+use mathlib.Core.Logic.{inl, inr}
 use mathlib.Core.Bool.{cond}
-use Prim.Native.Nat.{ℕ, zero, suc, _+_, _-_, _≤_, _<_}
+use Prim.Native.Nat.{ℕ, zero, suc, _+_, _-_, _<_}
 use native.Mathlib.Omega.{arith}
 use lib.Dec.{eqb}
 use lib.ListN.{length, getD, length-map, List·getD-map}
 use borrow.Author.Tests.{eqb-true, eqb-false}
-use Rattle.flash.specs.Flash.{Step, program, erase, sizeOf, Write, write, writeStep, writes}
+use Rattle.flash.specs.Flash.{Step, program, sizeOf, Write, write, writeStep, writes}
 use Rattle.flash.proofs.Cases.{on-test}
 use Rattle.flash.proofs.Programming.{length-writes, writes-at}
 use Rattle.frame.specs.declared.Edition.{Edition}
 use Rattle.frame.specs.declared.Edition.the-variants as edition
 use Rattle.frame.specs.Frame.{reset, encode, editionNumber}
 use Rattle.frame.specs.Reader.{Tail, clean, cut, bad}
-use Rattle.journal.specs.Replay.{Entry}
+use Rattle.journal.specs.Replay.{Entry, framesOf, settledOnly}
 use Rattle.journal.specs.Block.{Journal, tornLen, closing, changing, closeWrites}
-use Rattle.journal.specs.Laws.{byEdition}
+use Rattle.journal.specs.Laws.{byEdition, PlacesAre}
+use Rattle.journal.proofs.Sources.{place-exact}
 use Rattle.board.specs.declared.Rest.{Rest}
 use Rattle.board.specs.Record.{ending, idle}
 use Rattle.board.specs.Mount.{nextBlock, allFound, wipeList, Store, Upkeep, rests, mends, moves, upkeep, transfers, storeAt, replayOf, endOf}
-use Rattle.board.specs.Mount.{closedEnd, closesFor, resetBytes, dueReset, blockIn}
+use Rattle.board.specs.Mount.{closedEnd, closesFor, resetBytes, dueReset, blockIn, placesIn}
 use Rattle.board.specs.Table.{DueTransfer}
 use Rattle.board.specs.Plan.{Work, onBlock, mendWork, upkeepWork}
 use Rattle.board.specs.Sentences.{Member, OnlyIf, changes, stays, Closes, ClosesTail, resetFrame, Programs, MendExact, MountExact}
@@ -144,7 +145,8 @@ module _ (N l : ℕ) (b : List ℕ) (x : Store) where
         closing = closes-tail b k (endOf j) (j .tail);
         no-reset = λ q. ap (λ (ps : List Entry). onBlock k (writes (closedEnd j) (resetBytes j ps))) q ∙ none k;
         reset = λ n. some k (replayOf j .pending) n;
-        last = ap₂ (λ (e n : ℕ). idle (record { blocks = N; last = l; block = k; end = e; pending = 0 ∷ 0 ∷ 0 ∷ 0 ∷ []; edition = n }))
+        places = place-exact .places-are (j .edition) (j .frames);
+        last = ap₂ (λ (e n : ℕ). idle (placesIn j) (record { blocks = N; last = l; block = k; end = e; pending = 0 ∷ 0 ∷ 0 ∷ 0 ∷ []; edition = n }))
             (ap (λ (n : ℕ). closedEnd j + n) (sym (length-map (writes (closedEnd j) (dueReset j)) (writeStep k) ∙ length-writes (closedEnd j) (dueReset j))))
             (number-is (j .edition));
         few = mend-few k b z j;
@@ -165,15 +167,15 @@ module _ (N l : ℕ) (b : List ℕ) (x : Store) where
   mend-by c ps =
       record {
         steps = onBlock (x .number) (closeWrites b (endOf j) c) ++ onBlock (x .number) (writes (endOf j + tornLen c) (resetBytes j ps));
-        last = idle (ending z (endOf j + tornLen c + length (resetBytes j ps)));
+        last = idle (placesIn j) (ending z (endOf j + tornLen c + length (resetBytes j ps)));
       }
 
-  nothing-due : mend-by clean [] ≡ record { steps = []; last = idle z }
+  nothing-due : mend-by clean [] ≡ record { steps = []; last = idle (placesIn j) z }
   unfolding mend-by writes
   nothing-due =
-      let e : endOf j + 0 + 0 ≡ endOf j = omega arith in ap (λ (n : ℕ). record { steps = []; last = idle (ending z n) }) e
+      let e : endOf j + 0 + 0 ≡ endOf j = omega arith in ap (λ (n : ℕ). record { steps = []; last = idle (placesIn j) (ending z n) }) e
 
-  rests-exact : j .tail ≡ clean → replayOf j .pending ≡ [] → MendExact N l (x .number) b j (record { steps = []; last = idle z })
+  rests-exact : j .tail ≡ clean → replayOf j .pending ≡ [] → MendExact N l (x .number) b j (record { steps = []; last = idle (placesIn j) z })
   unfolding mended mend-by
   rests-exact c p = subst (MendExact N l (x .number) b j) (ap₂ mend-by c p ∙ nothing-due) mends-exact
 
@@ -203,5 +205,7 @@ mount-exact N img x =
       by-number = rising-at 0 ks (wipes-rise N (x .number) img);
       every = λ j. let w = wipes-exact N (x .number) img j in (λ (i, h, e). w .0 (member-in j ks i h e), λ y. in-member j ks (w .1 y));
       moves = λ d. ap (λ (v : Upkeep). kept v .steps) (moves-due s (x .journal) d);
+      moved-places = λ d. subst (λ (v : Upkeep). PlacesAre (x .journal .edition) (kept v .last .places) (framesOf (settledOnly (replayOf (x .journal)))))
+          (sym (moves-due s (x .journal) d)) (place-exact .places-are (x .journal .edition) (framesOf (settledOnly (replayOf (x .journal)))));
       mends = λ n. mends-or-rests N img x u refl n;
     }

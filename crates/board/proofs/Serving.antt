@@ -68,7 +68,7 @@ frame-starts {N} {s} {P} {Q} {img} r x f z h y each ends idle =
     subst (λ (n : ℕ). Standing (x .edition) (block n (r .rest .block) img) (x .frames)) (sym (size-of z)) (standing-of (h .alone .contents)) in
     job-starts img (enterWipe (appendJob N img r x f)) (frameWork N img r x f .steps)
     (frameWork N img r x f .last)
-    (follows-frame img r x f (z .count) (h .long) (h .blocks) (h .alone .there) j (sym (h .ends)) (h .edition-is) (omega (arith, y .fits, size-of z)))
+    (follows-frame img r x f (z .count) (h .long) (h .blocks) (h .alone .there) j (sym (h .ends)) (h .edition-is) (omega (arith, y .fits, size-of z)) (y .legal))
     (frame-some (sizeOf N img) (nextBlock N (r .rest .block)) (counted (r .rest) x f) x f) each ends idle
 
 -- ---- serving one request on an idle record of a run

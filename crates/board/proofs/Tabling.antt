@@ -1,9 +1,9 @@
 -- The machine refuses exactly as the table's lines say.
-use mathlib.Core.Path.{_≡_, refl, sym, ap, ap₂, _∙_}
+use mathlib.Core.Path.{_≡_, refl, sym, ap, ap₂, _∙_, subst}
 use mathlib.Core.List.{List, [], _∷_, _++_}
 use mathlib.Core.Logic.{_↔_}
 use mathlib.Core.Option.{Option, none, some}
-use mathlib.Core.Bool.{true, not}
+use mathlib.Core.Bool.{true, not, Bool, false, _&&_}
 use Prim.Native.Nat.{ℕ, _+_, _<_}
 use native.Mathlib.Omega.{arith}
 use lib.Dec.{eqb, ltb}
@@ -14,8 +14,9 @@ use Rattle.flash.specs.Flash.{sizeIn}
 use Rattle.flash.proofs.Cases.{on-test, clash, and-both, and-left, and-right}
 use Rattle.frame.specs.declared.Edition.the-variants as edition
 use Rattle.frame.specs.declared.Host.{Host}
+use Rattle.frame.specs.declared.ObjectId.{ObjectId}
 use Rattle.frame.specs.Frame.{frameLen, hostMax, put, delete, Change}
-use Rattle.journal.specs.Replay.{lookup, Entry, entry}
+use Rattle.journal.specs.Replay.{Entry, entry}
 use Rattle.journal.specs.Block.{Journal, lastTime}
 use Rattle.journal.specs.Room.{noRoom, openHosts}
 use Rattle.journal.proofs.ReplayLaws.{pending-exact, used-exact}
@@ -24,9 +25,11 @@ use Rattle.wire.specs.declared.Request.{Request}
 use Rattle.wire.specs.declared.Request.the-variants.{Put, Delete, Commit, Abort, Read, Log, Convert}
 use Rattle.wire.specs.declared.Parsed.{Parsed}
 use Rattle.wire.specs.declared.Parsed.the-variants.{Is, Malformed}
-use Rattle.wire.specs.Message.{parse, pageLen, valueIn}
-use Rattle.wire.specs.Sentences.{Means, MessagesExact, MalformedExact}
-use Rattle.wire.proofs.Sentences.{messages-exact, malformed-exact}
+use Rattle.wire.specs.Message.{parse, pageLen, valueIn, ofReadKind, idIn}
+use Rattle.wire.specs.Sentences.{Means, MessagesExact, MalformedExact, ReadKind, ReadKindExact}
+use Rattle.wire.proofs.Sentences.{messages-exact, malformed-exact, read-kind-exact, read-asked}
+use Rattle.board.proofs.Reading.{one-request, no-read}
+use Rattle.board.proofs.TablingReads.{placed-rows}
 use Rattle.board.specs.declared.Phase.{Phase}
 use Rattle.board.specs.declared.Phase.the-variants.{Unmounted, Idle, Busy}
 use Rattle.board.specs.declared.Record.{Record}
@@ -36,9 +39,9 @@ use Rattle.board.specs.Queue.{Asking, heldFor, movesFor, sizeFor, reques
 use Rattle.board.specs.Exec.{request, step, format, exec}
 use Rattle.board.specs.Table.{isBusy, isNone, Task, idles, appends, converts, taskFor, Line, line, Exactly, Allowed, InJob, Fresh, FreshFor, FreshExact}
 use Rattle.board.specs.Table.{NoObject, HostFull, put-over, delete-over, ShortReply, NoRoom, for-put, for-delete, for-convert, StillPending, Worn}
-use Rattle.board.specs.Table.{requestLines, linesOf, Moves}
-use Rattle.board.proofs.Checks.{check, isUnmounted, isMalformed, noObject, shortReply, noRoomFor, worn, laterChecks, hostFullFor}
-use Rattle.board.proofs.Checks.{heldChecks, requestChecks, isSome, pendingRule}
+use Rattle.board.specs.Table.{requestLines, linesOf, Moves, PlaceLost}
+use Rattle.board.proofs.Checks.{check, isUnmounted, isMalformed, shortReply, noRoomFor, worn, laterChecks, hostFullFor}
+use Rattle.board.proofs.Checks.{heldChecks, requestChecks, isSome, pendingRule, fromStale}
 use Rattle.board.proofs.Lines.{Tests, Rows, end, row, exactly, false-true, not-yes, not-no, not-not}
 use Rattle.board.proofs.TablingSteps.{step-test}
 use Rattle.board.proofs.Images.{AllowedAs, allowed-tests, allowed-from}
@@ -92,14 +95,7 @@ none-some e = let w : _≡_ {A = ℕ} 0 1 = cc in absurd (omega arith)
 some-held : {x y : Journal} → some x ≡ some y → x ≡ y
 some-held e = cc
 
-is-request : {x y : Request} → Is x ≡ Is y → x ≡ y
-is-request e = cc
-
--- a message means one request, and an image read afresh holds one thing
-pub same-request : (msg : List ℕ) (q s : Request) → Means msg q → Means msg s → q ≡ s
-unfolding MessagesExact
-same-request msg q s a b = is-request (sym (messages-exact msg q .1 a) ∙ messages-exact msg s .1 b)
-
+-- an image read afresh holds one thing
 module _ (N : ℕ) (img : List ℕ) (r : Record) (by : Bytes img) (ok : allowed N (length img) ≡ true) where
   pub same-held : (x y : Journal) → Fresh N img r x → Fresh N img r y → x ≡ y
   unfolding FreshExact
@@ -113,9 +109,20 @@ module _ (a : Asking) (by : Bytes (a .image)) (ok : allowed (a .blocks) (length 
   unfolding FreshExact
   fresh-for x = fresh-exact (a .blocks) (a .image) (a .board) x by ok
 
-  stale-test : (o : Option Journal) → heldFor a ≡ o → Tests (isNone o) ((x : Journal) → FreshFor a x → ⊥)
-  stale-test none e = record { yes = λ t x y. none-some (sym e ∙ fresh-for x .1 y); no = λ f. refl }
-  stale-test (some x) e = record { yes = λ t. false-true t; no = λ f. absurd (f x (fresh-for x .0 e)) }
+  no-read-means : ofReadKind (a .message) ≡ false → (i : ObjectId) → Means (a .message) (Read i) → ⊥
+  unfolding MessagesExact
+  no-read-means k i w = no-read (a .message) k i (messages-exact (a .message) (Read i) .1 w)
+
+  kind-test : Tests (ofReadKind (a .message)) (ReadKind (a .message))
+  unfolding ReadKindExact
+  kind-test = record { yes = read-kind-exact (a .message) .0; no = read-kind-exact (a .message) .1 }
+
+  -- of a message of any other kind than a read's
+  stale-test : (b : Bool) (o : Option Journal) → Tests b (ReadKind (a .message)) → heldFor a ≡ o
+      → Tests (not b && isNone o) ((ReadKind (a .message) → ⊥) × ((x : Journal) → FreshFor a x → ⊥))
+  stale-test true o k e = record { yes = λ t. false-true t; no = λ f. absurd (f .0 (k .yes refl)) }
+  stale-test false none k e = record { yes = λ t. (λ y. false-true (k .no y), λ x y. none-some (sym e ∙ fresh-for x .1 y)); no = λ f. refl }
+  stale-test false (some x) k e = record { yes = λ t. false-true t; no = λ f. absurd (f .1 x (fresh-for x .0 e)) }
 
   malformed-test : (p : Parsed) → parse (a .message) ≡ p → Tests (isMalformed p) ((q : Request) → Means (a .message) q → ⊥)
   unfolding MessagesExact MalformedExact
@@ -123,34 +130,11 @@ module _ (a : Asking) (by : Bytes (a .image)) (ok : allowed (a .blocks) (length 
   malformed-test (Is q) e = record { yes = λ t. false-true t; no = λ f. absurd (f q (messages-exact (a .message) q .0 e)) }
 
   module _ (x : Journal) (q : Request) (fresh : FreshFor a x) (means : Means (a .message) q) where
-    object-test : Tests (noObject x q) (NoObject a)
-    object-test =
-        record {
-          yes = λ t. there q means t;
-          no = λ y.
-              ap₂ noObject (same-for x (y .holding) fresh (y .is-held)) (same-request (a .message) q (Read (y .id)) means (y .is-asked))
-              ∙ ap (λ (v : Option (List ℕ)). isNone v) (y .none-there);
-        }
-      where
-        lacks : (v : Option (List ℕ)) → isNone v ≡ true → v ≡ none
-        lacks none e = refl
-        lacks (some v) e = false-true e
-
-        there : (s : Request) → Means (a .message) s → noObject x s ≡ true → NoObject a
-        there (Put i) k t = false-true t
-        there (Delete i) k t = false-true t
-        there Commit k t = false-true t
-        there Abort k t = false-true t
-        there (Read i) k t =
-            record { holding = x; id = i; is-held = fresh; is-asked = k; none-there = lacks (lookup i (replayOf x .objects)) t }
-        there (Log p) k t = false-true t
-        there Convert k t = false-true t
-
     short-test : Tests (shortReply a q) (ShortReply a)
     short-test =
         record {
           yes = λ t. there q means t;
-          no = λ y. ap (shortReply a) (same-request (a .message) q (Log (y .page)) means (y .is-asked)) ∙ lt-ltb (length (a .reply)) pageLen (y .short);
+          no = λ y. ap (shortReply a) (one-request (a .message) q (Log (y .page)) means (y .is-asked)) ∙ lt-ltb (length (a .reply)) pageLen (y .short);
         }
       where
         there : (s : Request) → Means (a .message) s → shortReply a s ≡ true → ShortReply a
@@ -167,7 +151,7 @@ module _ (a : Asking) (by : Bytes (a .image)) (ok : allowed (a .blocks) (length 
         record {
           yes = λ t. there q means t;
           no = λ y.
-              ap₂ pendingRule (same-for x (y .holding) fresh (y .is-held)) (same-request (a .message) q Convert means (y .is-asked))
+              ap₂ pendingRule (same-for x (y .holding) fresh (y .is-held)) (one-request (a .message) q Convert means (y .is-asked))
               ∙ some-there (replayOf (y .holding) .pending) (y .some-pending);
         }
       where
@@ -208,13 +192,13 @@ module _ (a : Asking) (by : Bytes (a .image)) (ok : allowed (a .blocks) (length 
 
         asks : NoRoom a → noRoomFor a x q ≡ true
         asks (for-put y i f k l) =
-            ap₂ (noRoomFor a) (same-for x y fresh f) (same-request (a .message) q (Put i) means k)
+            ap₂ (noRoomFor a) (same-for x y fresh f) (one-request (a .message) q (Put i) means k)
             ∙ lt-ltb (sizeFor a) _ (omega (arith, l, put-sum (y .edition) (a .host) i v (claimedOf y) (opens y (put i v))))
         asks (for-delete y i f k l) =
-            ap₂ (noRoomFor a) (same-for x y fresh f) (same-request (a .message) q (Delete i) means k)
+            ap₂ (noRoomFor a) (same-for x y fresh f) (one-request (a .message) q (Delete i) means k)
             ∙ lt-ltb (sizeFor a) _ (omega (arith, l, delete-sum (y .edition) (a .host) i (claimedOf y) (opens y (delete i))))
         asks (for-convert y f k l) =
-            ap₂ (noRoomFor a) (same-for x y fresh f) (same-request (a .message) q Convert means k)
+            ap₂ (noRoomFor a) (same-for x y fresh f) (one-request (a .message) q Convert means k)
             ∙ lt-ltb (sizeFor a) _ (omega (arith, l, used-exact .used-is edition.Second (replayOf y)))
 
     share-test : Tests (hostFullFor a x q) (HostFull a)
@@ -231,10 +215,10 @@ module _ (a : Asking) (by : Bytes (a .image)) (ok : allowed (a .blocks) (length 
 
         asks : HostFull a → hostFullFor a x q ≡ true
         asks (put-over y i f k l) =
-            ap₂ (hostFullFor a) (same-for x y fresh f) (same-request (a .message) q (Put i) means k)
+            ap₂ (hostFullFor a) (same-for x y fresh f) (one-request (a .message) q (Put i) means k)
             ∙ pending-exact .full-is (y .edition) (sizeFor a) (y .frames) (a .host) (put i (valueIn (a .message))) .1 l
         asks (delete-over y i f k l) =
-            ap₂ (hostFullFor a) (same-for x y fresh f) (same-request (a .message) q (Delete i) means k)
+            ap₂ (hostFullFor a) (same-for x y fresh f) (one-request (a .message) q (Delete i) means k)
             ∙ pending-exact .full-is (y .edition) (sizeFor a) (y .frames) (a .host) (delete i) .1 l
 
     worn-test : Tests (worn a x (taskFor (a .host) (a .message) x q)) (Worn a)
@@ -251,7 +235,7 @@ module _ (a : Asking) (by : Bytes (a .image)) (ok : allowed (a .blocks) (length 
               };
           no = λ y.
               ap₂ (λ (z : Journal) (s : Request). worn a z (taskFor (a .host) (a .message) z s)) (same-for x (y .holding) fresh (y .is-held))
-              (same-request (a .message) q (y .asked) means (y .is-asked))
+              (one-request (a .message) q (y .asked) means (y .is-asked))
               ∙ due (y .holding) (taskFor (a .host) (a .message) (y .holding) (y .asked)) (y .moves) (eq-eqb (y .holding .time) lastTime (y .last-time));
         }
       where
@@ -271,32 +255,56 @@ module _ (a : Asking) (by : Bytes (a .image)) (ok : allowed (a .blocks) (length 
             and-both (movesFor a w f) (eqb (w .time) lastTime) (lt-ltb (sizeFor a) (a .board .rest .end + frameLen (w .edition) f) m) e
         due w converts m e = e
 
-    held-rows : Rows (heldChecks a x q)
-        (line 8 (NoObject a) ∷ line 9 (ShortReply a) ∷ line 16 (StillPending a) ∷ line 12 (HostFull a) ∷ line 7 (NoRoom a) ∷ line 6 (Worn a) ∷ [])
-    held-rows =
-        row refusal.NoObject object-test (λ _.
+    -- it is no read
+    lost-test : ofReadKind (a .message) ≡ false → Tests false (PlaceLost a)
+    lost-test k = record { yes = λ t. false-true t; no = λ y. absurd (no-read-means k (y .id) (y .is-asked)) }
+
+    absent-test : ofReadKind (a .message) ≡ false → Tests false (NoObject a)
+    absent-test k = record { yes = λ t. false-true t; no = λ y. absurd (no-read-means k (y .id) (y .is-asked)) }
+
+    held-rows : ofReadKind (a .message) ≡ false → Rows (heldChecks a x q)
+        (line 11 (PlaceLost a) ∷ line 8 (NoObject a) ∷ line 9 (ShortReply a) ∷ line 16 (StillPending a) ∷ line 12 (HostFull a) ∷ line 7 (NoRoom a) ∷ line 6 (Worn a) ∷ [])
+    held-rows k =
+        row refusal.Stale (lost-test k) (λ _.
+        row refusal.NoObject (absent-test k) (λ _.
         row refusal.ShortReply short-test (λ _.
         row refusal.Pending pending-test (λ _.
         row refusal.HostFull share-test (λ _.
         row refusal.NoRoom room-test (λ _.
-        row refusal.Worn worn-test (λ _. end))))))
+        row refusal.Worn worn-test (λ _. end)))))))
+
+  abbrev readLines : List Line
+  readLines =
+      line 11 (PlaceLost a) ∷ line 8 (NoObject a) ∷ line 9 (ShortReply a) ∷ line 16 (StillPending a) ∷ line 12 (HostFull a) ∷ line 7 (NoRoom a)
+      ∷ line 6 (Worn a) ∷ []
 
   abbrev lastLines : List Line
-  lastLines =
-      line 1 ((q : Request) → Means (a .message) q → ⊥) ∷ line 8 (NoObject a) ∷ line 9 (ShortReply a) ∷ line 16 (StillPending a) ∷ line 12 (HostFull a)
-      ∷ line 7 (NoRoom a) ∷ line 6 (Worn a) ∷ []
+  lastLines = line 1 ((q : Request) → Means (a .message) q → ⊥) ∷ readLines
 
-  parsed-rows : (x : Journal) → FreshFor a x → (p : Parsed) → parse (a .message) ≡ p
-      → Rows (check refusal.Malformed (isMalformed p) ∷ laterChecks a (some x) p) lastLines
+  parsed-rows : ofReadKind (a .message) ≡ false → (x : Journal) → FreshFor a x → (p : Parsed) → parse (a .message) ≡ p
+      → Rows (check refusal.Malformed (isMalformed p) ∷ laterChecks a false (some x) p) lastLines
   unfolding MessagesExact
-  parsed-rows x f Malformed e = row refusal.Malformed (malformed-test Malformed e) (λ t. false-true (sym t))
-  parsed-rows x f (Is q) e = row refusal.Malformed (malformed-test (Is q) e) (λ _. held-rows x q f (messages-exact (a .message) q .0 e))
+  parsed-rows k x f Malformed e = row refusal.Malformed (malformed-test Malformed e) (λ t. false-true (sym t))
+  parsed-rows k x f (Is q) e = row refusal.Malformed (malformed-test (Is q) e) (λ _. held-rows x q f (messages-exact (a .message) q .0 e) k)
 
-  stale-rows : (o : Option Journal) → heldFor a ≡ o
-      → Rows (check refusal.Stale (isNone o) ∷ check refusal.Malformed (isMalformed (parse (a .message))) ∷ laterChecks a o (parse (a .message)))
-      (line 11 ((x : Journal) → FreshFor a x → ⊥) ∷ lastLines)
-  stale-rows none e = row refusal.Stale (stale-test none e) (λ t. false-true (sym t))
-  stale-rows (some x) e = row refusal.Stale (stale-test (some x) e) (λ _. parsed-rows x (fresh-for x .0 e) (parse (a .message)) refl)
+  stale-rows : ofReadKind (a .message) ≡ false → Tests false (ReadKind (a .message)) → (o : Option Journal) → heldFor a ≡ o
+      → Rows (fromStale a false o (parse (a .message))) (line 11 ((ReadKind (a .message) → ⊥) × ((x : Journal) → FreshFor a x → ⊥)) ∷ lastLines)
+  stale-rows k t none e = row refusal.Stale (stale-test false none t e) (λ t. false-true (sym t))
+  stale-rows k t (some x) e = row refusal.Stale (stale-test false (some x) t e) (λ _. parsed-rows k x (fresh-for x .0 e) (parse (a .message)) refl)
+
+  read-rows : ofReadKind (a .message) ≡ true → (p : Parsed) → parse (a .message) ≡ p
+      → Rows (check refusal.Malformed (isMalformed p) ∷ laterChecks a true (heldFor a) p) lastLines
+  unfolding MessagesExact ReadKindExact
+  read-rows k Malformed e = row refusal.Malformed (malformed-test Malformed e) (λ t. false-true (sym t))
+  read-rows k (Is q) e =
+      let w : Means (a .message) q = messages-exact (a .message) q .0 e in
+      row refusal.Malformed (malformed-test (Is q) e)
+      (λ _. placed-rows a (idIn (a .message)) (subst (Means (a .message)) (read-asked (a .message) q w (read-kind-exact (a .message) .0 k)) w))
+
+  kind-rows : (b : Bool) → ofReadKind (a .message) ≡ b → Tests b (ReadKind (a .message))
+      → Rows (fromStale a b (heldFor a) (parse (a .message))) (line 11 ((ReadKind (a .message) → ⊥) × ((x : Journal) → FreshFor a x → ⊥)) ∷ lastLines)
+  kind-rows true k t = row refusal.Stale (stale-test true (heldFor a) t refl) (λ _. read-rows k (parse (a .message)) refl)
+  kind-rows false k t = stale-rows k t (heldFor a) refl
 
 request-rows : (a : Asking) → Bytes (a .image) → Rows (requestChecks a) (requestLines a)
 request-rows a by =
@@ -304,7 +312,8 @@ request-rows a by =
     row refusal.HostRange (host-test (a .host)) (λ _.
     row refusal.Busy (busy-test (a .board .phase)) (λ _.
     row refusal.NoStore (unmounted-test (a .board .phase)) (λ _.
-    stale-rows a by (not-not (allowed (a .blocks) (length (a .image))) n) (heldFor a) refl))))
+    kind-rows a by (not-not (allowed (a .blocks) (length (a .image))) n) (ofReadKind (a .message)) refl
+    (kind-test a by (not-not (allowed (a .blocks) (length (a .image))) n))))))
 
 -- ---- the lines
 

@@ -52,7 +52,7 @@ up-cond false x y a c = c
 
 up-append : (r : Record) → Up (enterAppend r)
 unfolding enterAppend
-up-append r = up-cond (ltb 0 (r .job .size)) (enter Append r) (idle (r .rest)) tt tt
+up-append r = up-cond (ltb 0 (r .job .size)) (enter Append r) (idle (r .places) (r .rest)) tt tt
 
 up-drop : (r : Record) → Up (enterDrop r)
 unfolding enterDrop

@@ -48,7 +48,7 @@ use Rattle.board.proofs.Images.{length-all-steps, bytes-all-steps}
 use Rattle.board.proofs.Freshness.{fresh-valid}
 use Rattle.board.proofs.Answering.{number-done}
 use Rattle.board.proofs.TablingMounts.{Mountable, mounts-current, same-store}
-use Rattle.board.proofs.Determining.{mounted-idle, job-idle, Asked, request-asks, mount-takes, mount-allowed, mount-agrees}
+use Rattle.board.proofs.Determining.{mounted-idle, job-idle, Asked, mount-takes, mount-allowed, mount-agrees, more-asks, request-means}
 use Rattle.board.proofs.Following.{left-by}
 use Rattle.board.proofs.Runs.{stepping, after-append, HappensAfter, happens-append, happens-first, happens-rest, steps-happen, run-rest, steps-agree}
 
@@ -60,7 +60,7 @@ module _ {N : ℕ} {m : Machine} (p : Calls N m) where
   malformed-refused img r h msg reply by f = go (m img r (request h msg reply) .answer) refl
     where
       taken : Accepted (m img r (request h msg reply) .answer) → ⊥
-      taken a = let y : Asked N img r msg = request-asks p img by r h msg reply a in f (y .asked) (y .is-asked)
+      taken a = let y = request-means p img by r h msg reply a in f (y .0) (y .1)
 
       go : (a : Answer) → m img r (request h msg reply) .answer ≡ a → IsRefused (request h msg reply) (m img r (request h msg reply) .answer)
       go Done e = absurd (taken (subst Accepted (sym e) tt))
@@ -188,7 +188,7 @@ book-steps {N} {m} p i bi w h msg reply bm e b k = go (taskFor h msg x q) refl (
     taken = subst Accepted (sym e) tt
 
     y : Asked N i w msg
-    y = request-asks (p .calls) i bi w h msg reply taken
+    y = more-asks (p .calls) i bi w h msg reply bm e
 
     x : Journal
     x = y .holding

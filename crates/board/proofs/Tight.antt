@@ -1,5 +1,5 @@
 -- What a tight store answers, of every machine that keeps the promise.
-use mathlib.Core.Path.{_≡_, refl, sym, ap, ap₂, subst, subst₂, _∙_}
+use mathlib.Core.Path.{_≡_, refl, sym, ap, ap₂, subst, _∙_}
 use mathlib.Core.List.{List, [], _∷_, _++_}
 use mathlib.Core.Bool.{Bool}
 use mathlib.Core.Logic.{_⊎_, inl, inr}
@@ -12,7 +12,6 @@ use borrow.Author.Tests.{ltb-true, ltb-false}
 use Rattle.flash.specs.Flash.{sizeOf}
 use Rattle.flash.proofs.Cases.{on-test}
 use Rattle.frame.specs.declared.Edition.{Edition}
-use Rattle.frame.specs.declared.Edition.the-variants as edition
 use Rattle.frame.specs.declared.Host.{Host}
 use Rattle.frame.specs.declared.ObjectId.{ObjectId}
 use Rattle.frame.specs.Frame.{Change, put, delete, Frame, commit, abort}
@@ -28,6 +27,7 @@ use Rattle.wire.specs.declared.Request.{Request}
 use Rattle.wire.specs.declared.Request.the-variants.{Put, Delete, Commit, Abort, Read, Log, Convert}
 use Rattle.wire.specs.Answer.{numberOf}
 use Rattle.wire.specs.Message.{valueIn}
+use Rattle.board.proofs.TablingReads.{absent-none}
 use Rattle.board.specs.declared.Record.{Record}
 use Rattle.board.specs.Record.{Accepted, Out, out}
 use Rattle.board.specs.Mount.{replayOf, usedOf, claimedOf}
@@ -40,7 +40,7 @@ use Rattle.board.specs.Tight.{AsksTight, TightGoesOn}
 use Rattle.board.proofs.Answering.{number-done, whole-is}
 use Rattle.board.proofs.Images.{sized-of}
 use Rattle.board.proofs.Tabling.{is-allowed}
-use Rattle.board.proofs.Limits.{IsChange, afterMalformed, same, past, asks-one, still-some, over-change, full-change, full-convert, worn-out}
+use Rattle.board.proofs.Limits.{IsChange, afterMalformed, past, asks-one, still-some, over-change, full-change, full-convert, worn-out}
 
 module _ {N : ℕ} {m : Machine} (p : Promise N m) (img : List ℕ) (r : Record) (h : Host) (msg reply : List ℕ) (x : Journal) where
   abbrev a : Asking
@@ -180,8 +180,8 @@ module _ {N : ℕ} {m : Machine} (p : Promise N m) (img : List ℕ) (r : Record)
       missing n =
           let e : Read i ≡ Read (n .id) = asks-one a x (Read i) (y .asks) (Read (n .id)) (n .is-asked) in
           let g : i ≡ n .id = cc in
-          f (subst₂ (λ (w : Journal) (j : ObjectId). lookup j (replayOf w .objects) ≡ none) (same a x (Read i) (y .asks) (n .holding) (n .is-held)) (sym g)
-          (n .none-there))
+          f (subst (λ (j : ObjectId). lookup j (replayOf x .objects) ≡ none) (sym g)
+          (absent-none a x (y .asks .bytes) (is-allowed N (length img) (y .asks .length-ok)) (y .asks .is-held) n))
 
   log-tight : (k : Page) → AsksTight N img r h msg reply x (Log k) → 14 ≤ length reply → o .answer ≡ Done
   log-tight k y l =

@@ -23,6 +23,7 @@ use Rattle.journal.proofs.Raising.{Harmless, blank-harmless, progress-harmless,
 use Rattle.journal.proofs.Building.{Lands, below-build, built, making, lands}
 use Rattle.journal.proofs.Replaying.{replay-framesOf, stands-settled}
 use Rattle.journal.proofs.Room.{frames-total, used-claimed, claimed-settled, claimed-replay}
+use Rattle.journal.specs.Index.{placesOf}
 use Rattle.board.specs.declared.Rest.{Rest}
 use Rattle.board.specs.Record.{rest, landing, idle}
 use Rattle.board.specs.Mount.{nextBlock, replayOf}
@@ -211,7 +212,7 @@ module _ {N : ℕ} {s k : ℕ} {img : List ℕ} {w : Journal} (a : Alone N s img
           }
 
   pub transferred : (z : Rest) → z .blocks ≡ N → length img ≡ suc (z .last) → z .pending ≡ countsIn ed st → Roomy s ed st
-      → After N s ed (applyAll s (transferPlan ed N k w st) img) (idle (landing z (editionNumber ed) (nextBlock N k) (claimed ed st))) st
+      → After N s ed (applyAll s (transferPlan ed N k w st) img) (idle (placesOf ed (framesOf st)) (landing z (editionNumber ed) (nextBlock N k) (claimed ed st))) st
   transferred z b e counts room =
-      subst (λ (n : ℕ). After N s ed (applyAll s (transferPlan ed N k w st) img) (idle (landing z (editionNumber ed) (nextBlock N k) n)) st)
+      subst (λ (n : ℕ). After N s ed (applyAll s (transferPlan ed N k w st) img) (idle (placesOf ed (framesOf st)) (landing z (editionNumber ed) (nextBlock N k) n)) st)
       (frames-total ed st) (alone-after z st transfer-alone refl b (length-all-steps s (transferPlan ed N k w st) img ∙ e) (replay-framesOf st) counts room)

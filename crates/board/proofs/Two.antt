@@ -23,7 +23,7 @@ use Rattle.board.specs.Record.{allowed, rest, Out, refuse}
 use Rattle.board.specs.Step.{action, advance, stepped, stepIn, stepBusy, stepOn}
 use Rattle.board.specs.Mount.{nextBlock}
 use Rattle.board.specs.Queue.{held, heldBy, heldIn, sameImage, othersBlank, counted}
-use Rattle.board.specs.Plan.{Work, appendWork, movedWork, frameIn, frameWork}
+use Rattle.board.specs.Plan.{Work, stayedWork, movedWork, frameIn, frameWork}
 use Rattle.board.specs.Two.{allowedTwo, sizeTwo, stateTwo, beside, heldTwo, frameTwo, stepTwo}
 use Rattle.board.proofs.Images.{AllowedAs, allowed-tests, allowed-from}
 
@@ -86,8 +86,8 @@ two-fresh img r e =
     ap (λ (b : Bool). heldBy 2 b img r) (same-two img r e)
     ∙ by (eqb (length img) (suc (r .rest .last)) && (ltb (r .rest .block) 2 && allFF (block (sizeTwo img) (beside (r .rest .block)) img)))
   where
-    by : (b : Bool) → heldBy 2 b img r ≡ cond b (heldIn (sizeTwo img) (r .rest) (stateTwo img (r .rest .block))) none
-    by true = ap (λ (n : ℕ). heldIn n (r .rest) (blockState (block n (r .rest .block) img))) (two-sizes img)
+    by : (b : Bool) → heldBy 2 b img r ≡ cond b (heldIn (sizeTwo img) r (stateTwo img (r .rest .block))) none
+    by true = ap (λ (n : ℕ). heldIn n r (blockState (block n (r .rest .block) img))) (two-sizes img)
     by false = refl
 
 -- ---- a frame appended
@@ -103,8 +103,8 @@ two-frame img r x f h = ap (λ (w : Work). w .steps) (frame-beside img r x f h) 
     z : Rest
     z = counted (rest 2 (r .rest .last) (r .rest .block) (r .rest .end) (r .rest .edition)) x f
 
-    by : (b : Bool) → cond b (movedWork (beside (r .rest .block)) (counted (r .rest) x f) x f) (appendWork (x .edition) (counted (r .rest) x f) f) .steps
-        ≡ cond b (movedWork (beside (r .rest .block)) z x f) (appendWork (x .edition) z f) .steps
+    by : (b : Bool) → cond b (movedWork (beside (r .rest .block)) (counted (r .rest) x f) x f) (stayedWork (counted (r .rest) x f) x f) .steps
+        ≡ cond b (movedWork (beside (r .rest .block)) z x f) (stayedWork z x f) .steps
     by true = refl
     by false = refl
 

@@ -35,7 +35,7 @@ use Rattle.board.proofs.Demand2.{Steady, steady-idle, request-kept, ste
 use Rattle.board.proofs.Claiming.{format-done}
 use Rattle.board.proofs.Answering.{number-done, told-answer, in-job}
 use Rattle.board.proofs.Alike.{Alike, resting, working, Agree}
-use Rattle.board.proofs.Determining.{Asked, request-asks, mount-takes, while-busy, busy-refuses, call-agrees, job-idle}
+use Rattle.board.proofs.Determining.{Asked, mount-takes, while-busy, busy-refuses, call-agrees, job-idle, more-asks}
 use Rattle.board.proofs.TablingMounts.{Mountable}
 use Rattle.board.proofs.Following.{formatted-over}
 use Rattle.board.proofs.Promising.{calls}
@@ -148,7 +148,7 @@ module _ {N : ℕ} {m : Machine} (p : Calls N m) (img : List ℕ) (by : Bytes im
           a = subst Accepted (sym e) tt
 
           y : Asked N img q msg
-          y = request-asks p img by q g msg reply a
+          y = more-asks p img by q g msg reply bm e
 
           x : Journal
           x = y .holding

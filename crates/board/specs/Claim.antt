@@ -18,7 +18,7 @@ use Rattle.frame.specs.Reader.{clean}
 use Rattle.journal.specs.Replay.{Object, lookup, listOf}
 use Rattle.journal.specs.Block.{Journal, valid, blockState, lastTime}
 use Rattle.journal.specs.Room.{usedBy}
-use Rattle.journal.specs.Laws.{byEdition, changesBytes}
+use Rattle.journal.specs.Laws.{byEdition, changesBytes, PlacesAre}
 use Rattle.wire.specs.declared.Answer.{Answer}
 use Rattle.wire.specs.declared.Answer.the-variants.{Done, More, Refused}
 use Rattle.frame.specs.declared.Fault.{Fault}
@@ -110,6 +110,8 @@ pub record IdleAgrees (N : ℕ) (u : Track) (img : List ℕ) (r : Record) (b : B
   pub counts : (h : Host) → h .0 ≤ hostMax → getD (r .rest .pending) (h .0) 0 ≡ changesBytes (journal .edition) (b .lists h)
   -- K9: "The record carries the edition"
   pub edition-is : r .rest .edition ≡ byEdition (journal .edition) 1 2
+  -- K8: "for every id, where replay finds its settled value or that there is none"
+  pub places : PlacesAre (journal .edition) (r .places) (journal .frames)
   pub room : RoomLeft (u .tight) (sizeOf N img) journal
 
 -- a job that call c began ends idle once its steps are all made, and they are few: a request's and a format's at most S, a mount's at most S

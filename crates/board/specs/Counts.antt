@@ -13,6 +13,8 @@ use Rattle.wire.specs.declared.Answer.the-variants.{Done, Refused}
 use Rattle.wire.specs.declared.Refusal.{Refusal}
 use Rattle.wire.specs.declared.Refusal.the-variants as refusal
 use Rattle.wire.specs.Answer.{numberOf}
+use Rattle.wire.specs.declared.Request.{Request}
+use Rattle.wire.specs.Sentences.{Means, ReadKind}
 use Rattle.board.specs.declared.Phase.the-variants.{Idle}
 use Rattle.board.specs.declared.Record.{Record}
 use Rattle.board.specs.Record.{allowed, out}
@@ -23,13 +25,18 @@ use Rattle.board.specs.Claim.{Event, call, HappensFrom}
 use Rattle.board.specs.CutFormat.{Left, leftBy}
 use Rattle.board.specs.Promise.{Kept}
 
+-- document 02, K8: "A message of kind 0x0105 then gets 11, after 1"
+abbrev pub MalformedRead : List ℕ → Type 0
+MalformedRead msg = ReadKind msg × ((q : Request) → Means msg q → ⊥)
+
 -- what a machine of another N makes of image and record
 pub record Apart (m : Machine) (img : List ℕ) (r : Record) : Type 0 where
   pub in-job : InJob (r .phase) → m img r step ≡ out (Refused refusal.Stale) img r []
   pub at-rest : Rests (r .phase) → m img r step ≡ out Done img r []
   pub refused : (h : Host) (msg reply : List ℕ) → (n : Refusal) × (m img r (request h msg reply) ≡ out (Refused n) img r reply)
   pub number : (h : Host) (msg reply : List ℕ) → r .phase ≡ Idle → h .0 ≤ 3
-      → (numberOf (m img r (request h msg reply) .answer) ≡ some 4) ⊎ (numberOf (m img r (request h msg reply) .answer) ≡ some 11)
+      → (numberOf (m img r (request h msg reply) .answer) ≡ some 4) ⊎ ((numberOf (m img r (request h msg reply) .answer) ≡ some 11)
+      ⊎ ((numberOf (m img r (request h msg reply) .answer) ≡ some 1) × MalformedRead msg))
 
 -- after a call of a run of N, and at its start, of every store that keeps the promise
 unfoldable pub OtherCounts : Type 0

@@ -18,3 +18,4 @@ pub mod Two
 pub mod Tickets
 pub mod Drive
 pub mod Sentences
+pub mod Reads

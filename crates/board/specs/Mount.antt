@@ -48,6 +48,10 @@ countsOf x = countsIn (x .edition) (replayOf x)
 abbrev pub claimedOf : Journal → ℕ
 claimedOf x = claimed (x .edition) (replayOf x)
 
+-- K8: "for every id, where replay finds its settled value or that there is none"
+abbrev pub placesIn : Journal → List ℕ
+placesIn x = placesOf (x .edition) (x .frames)
+
 -- ---- the blocks of an image
 
 -- a block by its number
@@ -199,7 +203,7 @@ blockIn N img x = block (sizeOf N img) (x .number) img
 -- K9: "other transfers keep theirs". A transfer copies no pending frame: it starts to look for them at the end
 abbrev pub mountJob : ℕ → List ℕ → Store → List ℕ → Upkeep → Record
 mountJob N img x ks u =
-    busy (standsFor u (storeAt N (length img - 1) x) (x .journal)) (placesOf (x .journal .edition) (x .journal .frames))
+    busy (standsFor u (storeAt N (length img - 1) x) (x .journal)) (placesIn (x .journal))
     (record {
       wipe = wipeArray ks;
       wipes = length ks;

@@ -12,12 +12,13 @@ use Rattle.frame.specs.Frame.{Frame, encode, frameLen}
 use Rattle.journal.specs.Replay.{State, framesOf, settledOnly}
 use Rattle.journal.specs.Block.{Journal, build, headerLen}
 use Rattle.journal.specs.Room.{used}
+use Rattle.journal.specs.Index.{placesOf}
 use Rattle.wire.specs.declared.Answer.the-variants.{More}
 use Rattle.board.specs.declared.Rest.{Rest}
 use Rattle.board.specs.declared.Record.{Record}
-use Rattle.board.specs.Record.{answerOf, out, rest, landing, ending, idle}
+use Rattle.board.specs.Record.{answerOf, out, noPlaces, rest, landing, ending, idle}
 use Rattle.board.specs.Mount.{nextBlock, formatOrder, allFound, Store, storeAt, wipeList, Upkeep, rests, mends, moves, upkeep, replayOf, usedOf, claimedOf}
-use Rattle.board.specs.Mount.{closedEnd, closesFor, dueReset, blockIn}
+use Rattle.board.specs.Mount.{placesIn, closedEnd, closesFor, dueReset, blockIn}
 use Rattle.board.specs.Queue.{counted}
 use Rattle.board.specs.Exec.{Machine, step}
 
@@ -70,7 +71,7 @@ afterSteps xs w = record { steps = xs ++ w .steps; last = w .last }
 -- "Format: erase half 0, erase half 1, then half 0's header at time 1 in the same order": of blocks ks, on an image whose length less one is l;
 -- document 02, K9: "format writes edition 1, other transfers keep theirs"
 abbrev pub formatIn : ℕ → ℕ → List ℕ → Work
-formatIn N l ks = afterSteps (map erase ks) (record { steps = onBlock 0 (build edition.First 1 []); last = idle (rest N l 0 headerLen 1) })
+formatIn N l ks = afterSteps (map erase ks) (record { steps = onBlock 0 (build edition.First 1 []); last = idle noPlaces (rest N l 0 headerLen 1) })
 
 -- of all blocks, in K14's order
 abbrev pub formatWork : ℕ → List ℕ → Work
@@ -81,17 +82,17 @@ abbrev pub mendWork : ℕ → List ℕ → Rest → Journal → Work
 mendWork k b z x =
     record {
       steps = onBlock k (closesFor mends b x) ++ onBlock k (writes (closedEnd x) (dueReset x));
-      last = idle (ending z (closedEnd x + length (dueReset x)));
+      last = idle (placesIn x) (ending z (closedEnd x + length (dueReset x)));
     }
 
 -- what a mount does after its erases with store x, whose block's bytes are b and whose record stands at z; a transfer goes to block j
 abbrev pub upkeepWork : Upkeep → ℕ → List ℕ → Rest → Store → Work
-upkeepWork rests j b z x = record { steps = []; last = idle z }
+upkeepWork rests j b z x = record { steps = []; last = idle (placesIn (x .journal)) z }
 upkeepWork mends j b z x = mendWork (x .number) b z (x .journal)
 upkeepWork moves j b z x =
     record {
       steps = transferTo (x .journal .edition) j (x .number) (x .journal) (settledOnly (replayOf (x .journal)));
-      last = idle (landing z (z .edition) j (usedOf (x .journal)));
+      last = idle (placesOf (x .journal .edition) (framesOf (settledOnly (replayOf (x .journal))))) (landing z (z .edition) j (usedOf (x .journal)));
     }
 
 -- the erases of blocks ks, and that
@@ -103,18 +104,23 @@ mountIn N img ks j x =
 abbrev pub mountWork : ℕ → List ℕ → Store → Work
 mountWork N img x = mountIn N img (wipeList (x .number) (allFound N img)) (nextBlock N (x .number)) x
 
--- "Put, delete, commit, abort: one frame of n bytes": where the record stands
-abbrev pub appendWork : Edition → Rest → Frame → Work
-appendWork ed z f = record { steps = appendPlan ed (z .block) (z .end) f; last = idle (ending z (z .end + frameLen ed f)) }
+-- "Put, delete, commit, abort: one frame of n bytes": where the record stands, with these places after it (K8)
+abbrev pub appendWork : Edition → Rest → List ℕ → Frame → Work
+appendWork ed z places f = record { steps = appendPlan ed (z .block) (z .end) f; last = idle places (ending z (z .end + frameLen ed f)) }
 
--- the same after a transfer, to block j
+-- to the journal that is there
+abbrev pub stayedWork : Rest → Journal → Frame → Work
+stayedWork z x f = appendWork (x .edition) z (placesOf (x .edition) (x .frames ++ (f ∷ []))) f
+
+-- after a transfer, to block j
 abbrev pub movedWork : ℕ → Rest → Journal → Frame → Work
 movedWork j z x f =
-    afterSteps (transferTo (x .edition) j (z .block) x (replayOf x)) (appendWork (x .edition) (landing z (z .edition) j (claimedOf x)) f)
+    afterSteps (transferTo (x .edition) j (z .block) x (replayOf x))
+    (appendWork (x .edition) (landing z (z .edition) j (claimedOf x)) (placesOf (x .edition) (framesOf (replayOf x) ++ (f ∷ []))) f)
 
 -- "after a transfer if end + n exceeds S": in blocks of s bytes
 abbrev pub frameIn : ℕ → ℕ → Rest → Journal → Frame → Work
-frameIn s j z x f = cond (ltb s (z .end + frameLen (x .edition) f)) (movedWork j z x f) (appendWork (x .edition) z f)
+frameIn s j z x f = cond (ltb s (z .end + frameLen (x .edition) f)) (movedWork j z x f) (stayedWork z x f)
 
 abbrev pub frameWork : ℕ → List ℕ → Record → Journal → Frame → Work
 frameWork N img r x f = frameIn (sizeOf N img) (nextBlock N (r .rest .block)) (counted (r .rest) x f) x f
@@ -124,7 +130,7 @@ abbrev pub convertIn : ℕ → Rest → Journal → Work
 convertIn j z x =
     record {
       steps = transferTo edition.Second j (z .block) x (settledOnly (replayOf x));
-      last = idle (landing z 2 j (used edition.Second (replayOf x)));
+      last = idle (placesOf edition.Second (framesOf (settledOnly (replayOf x)))) (landing z 2 j (used edition.Second (replayOf x)));
     }
 
 abbrev pub convertWork : ℕ → List ℕ → Record → Journal → Work

@@ -13,7 +13,7 @@ use Rattle.frame.specs.declared.Host.{Host}
 use Rattle.frame.specs.declared.ObjectId.{ObjectId}
 use Rattle.frame.specs.Frame.{Frame}
 use Rattle.journal.specs.Block.{Journal}
-use Rattle.journal.specs.Laws.{TakenFrom}
+use Rattle.journal.specs.Laws.{TakenFrom, Holder, front}
 use Rattle.wire.specs.declared.Answer.{Answer}
 use Rattle.wire.specs.declared.Answer.the-variants.{Done, More, Refused}
 use Rattle.wire.specs.declared.Refusal.{Refusal}
@@ -31,7 +31,7 @@ use Rattle.board.specs.Queue.{Asking, asking, sizeFor}
 pub use Rattle.board.specs.Exec.{Machine, Family}
 use Rattle.board.specs.Exec.{Call, request, step, mount, format}
 use Rattle.board.specs.Plan.{Work, Performs, formatWork, mountWork, frameWork, convertWork}
-use Rattle.board.specs.Table.{Task, idles, appends, converts, taskFor, Exactly, InJob, Fresh, ValidAt, Names, linesOf}
+use Rattle.board.specs.Table.{Task, idles, appends, converts, taskFor, Exactly, InJob, Fresh, placeFor, PlaceHolds, ValidAt, Names, linesOf}
 use Rattle.board.specs.Demand1.{Unchanged, ImageAfter, Short, Declared, Rests, EndsWithin}
 use Rattle.board.specs.Demand2.{Accepted, OneStore, UsableFrom, LandsFrom, RoomExact, WearExact, ShareExact, ConvertAnswers}
 use Rattle.wire.specs.Sentences.{Means}
@@ -104,6 +104,16 @@ HandsBack a x (Read i) st = Stands a x i st
 HandsBack a x (Log p) st = st ≡ noStretch
 HandsBack a x Convert st = st ≡ noStretch
 
+-- document 02, K8: an accepted read, on any record: the value of the frame at the recorded place, and nothing changes
+pub record HandsPlace (a : Asking) (i : ObjectId) (o : Out) : Type 0 where
+  pub holder : Holder
+  pub value : List ℕ
+  pub holds : PlaceHolds a i holder value
+  pub answers : numberOf (o .answer) ≡ some 0
+  pub board : o .board ≡ a .board
+  pub writes : o .reply ≡ a .reply
+  pub is : o .stretch ≡ record { at = a .board .rest .block * sizeFor a + (placeFor a i + front holder); size = length value }
+
 -- an accepted request q, where the image read afresh holds x
 pub record Serves (a : Asking) (x : Journal) (q : Request) (o : Out) : Type 0 where
   pub answers : Answers (taskFor (a .host) (a .message) x q) (a .board) o
@@ -158,6 +168,8 @@ pub record Calls (N : ℕ) (m : Machine) : Type 0 where
   -- on any record, forged ones too
   pub serves : (img : List ℕ) (r : Record) (h : Host) (msg reply : List ℕ) (x : Journal) (q : Request) → Bytes img → Bytes msg → Fresh N img r x
       → Means msg q → Accepted (m img r (request h msg reply) .answer) → Serves (asking N img r h msg reply) x q (m img r (request h msg reply))
+  pub reads : (img : List ℕ) (r : Record) (h : Host) (msg reply : List ℕ) (i : ObjectId) → Bytes img → Bytes msg → Means msg (Read i)
+      → Accepted (m img r (request h msg reply) .answer) → HandsPlace (asking N img r h msg reply) i (m img r (request h msg reply))
   -- the steps of an accepted call are its job's, and so many
   pub jobs : (img : List ℕ) (r : Record) (c : Call) (w : Work) → Bytes img → ByteCall c → Job N img r c w
       → Accepted (m img r c .answer) → Performs N m img (m img r c .board) w × Short N (sizeOf N img) (w .steps) c

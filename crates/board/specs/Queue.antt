@@ -26,24 +26,25 @@ use Rattle.wire.specs.declared.Request.{Request}
 use Rattle.wire.specs.declared.Request.the-variants.{Put, Delete, Commit, Abort, Read, Log, Convert}
 use Rattle.wire.specs.declared.Parsed.{Parsed}
 use Rattle.wire.specs.declared.Parsed.the-variants.{Is, Malformed}
-use Rattle.wire.specs.Message.{parse, valueIn, pageLen, logPage, withPage}
+use Rattle.wire.specs.Message.{parse, ofReadKind, idIn, valueIn, pageLen, logPage, withPage}
 use Rattle.board.specs.declared.Phase.{Phase}
 use Rattle.board.specs.declared.Phase.the-variants.{Unmounted, Idle, Busy}
 use Rattle.board.specs.declared.Rest.{Rest}
 use Rattle.board.specs.declared.Record.{Record}
-use Rattle.board.specs.Record.{allowed, zeroEach, noWipes, noCloses, starting, busy, Stretch, noStretch, Out, refuse, counting}
+use Rattle.board.specs.Record.{allowed, zeroEach, noWipes, noCloses, starting, busy, Stretch, noStretch, Out, refuse, counting, readsIn}
 use Rattle.board.specs.Step.{begin, sameShape}
-use Rattle.board.specs.Mount.{nextBlock, newTime, endOf, replayOf, usedOf, countsOf, claimedOf}
+use Rattle.board.specs.Mount.{nextBlock, newTime, endOf, replayOf, usedOf, countsOf, claimedOf, placesIn}
 
 -- ---- 11: the image read afresh
 
 -- "its last whole frame (or the header, if none) ending exactly at the recorded end with only 0xFF after it, .. C + 6·open at most S"; K7: "The
 -- board record carries each host's pending bytes as replay gives them; refusal 11 covers any other."; K9: "The record carries the edition ..; elsewhere
--- 11 covers any other", "10 for each 6"
-unfoldable pub fitsRecord : ℕ → Rest → Journal → Bool
-fitsRecord size z x =
-    (eqb (editionNumber (x .edition)) (z .edition) && (eqb (endOf x) (z .end) && sameBytes (countsOf x) (z .pending)))
-    && leb (claimedOf x + endLen (x .edition) * openHosts (replayOf x .pending)) size
+-- 11 covers any other", "10 for each 6"; K8: "now the places too"
+unfoldable pub fitsRecord : ℕ → Record → Journal → Bool
+fitsRecord size r x =
+    ((eqb (editionNumber (x .edition)) (r .rest .edition) && (eqb (endOf x) (r .rest .end) && sameBytes (countsOf x) (r .rest .pending)))
+    && leb (claimedOf x + endLen (x .edition) * openHosts (replayOf x .pending)) size)
+    && sameBytes (placesIn x) (r .places)
 
 -- "with only 0xFF after it"
 abbrev pub heldIf : Bool → Tail → Journal → Option Journal
@@ -52,11 +53,11 @@ heldIf b (cut n) x = none
 heldIf b (bad e) x = none
 
 -- "recorded half valid"
-abbrev pub heldIn : ℕ → Rest → BlockState → Option Journal
-heldIn size z blank = none
-heldIn size z inProgress = none
-heldIn size z (valid x) = heldIf (fitsRecord size z x) (x .tail) x
-heldIn size z (foreign e) = none
+abbrev pub heldIn : ℕ → Record → BlockState → Option Journal
+heldIn size r blank = none
+heldIn size r inProgress = none
+heldIn size r (valid x) = heldIf (fitsRecord size r x) (x .tail) x
+heldIn size r (foreign e) = none
 
 -- "other half blank"; K14: "the others stay blank"
 abbrev pub othersBlank : ℕ → ℕ → List ℕ → List ℕ → Bool
@@ -68,7 +69,7 @@ abbrev pub sameImage : ℕ → List ℕ → Record → Bool
 sameImage N img r = sameShape N (length img) r && (ltb (r .rest .block) N && othersBlank N (r .rest .block) img (blockNumbers N))
 
 abbrev pub heldBy : ℕ → Bool → List ℕ → Record → Option Journal
-heldBy N true img r = heldIn (sizeOf N img) (r .rest) (blockState (block (sizeOf N img) (r .rest .block) img))
+heldBy N true img r = heldIn (sizeOf N img) r (blockState (block (sizeOf N img) (r .rest .block) img))
 heldBy N false img r = none
 
 -- what the recorded block holds; none where 11 is given
@@ -84,10 +85,15 @@ needsRoom N img r x f = ltb (sizeOf N img) (r .rest .end + frameLen (x .edition)
 abbrev pub counted : Rest → Journal → Frame → Rest
 counted z x f = counting z (pendingOf (x .edition) (x .frames ++ (f ∷ [])))
 
+-- the places at acceptance: a transfer goes by those of the frames, and places what it copies; without one they are what they will be at the job's end
+abbrev pub placesFor : Bool → Journal → Frame → List ℕ
+placesFor true x f = placesIn x
+placesFor false x f = placesOf (x .edition) (x .frames ++ (f ∷ []))
+
 -- a transfer copies from the first id and from the header on
 abbrev pub appendJob : ℕ → List ℕ → Record → Journal → Frame → Record
 appendJob N img r x f =
-    busy (counted (r .rest) x f) (placesOf (x .edition) (x .frames))
+    busy (counted (r .rest) x f) (placesFor (needsRoom N img r x f) x f)
     (record {
       wipe = noWipes;
       wipes = 0;
@@ -106,7 +112,7 @@ appendJob N img r x f =
 -- K9: "a transfer takes the store to edition 2". Nothing is pending: it starts to look for pending frames at the end
 abbrev pub convertJob : ℕ → List ℕ → Record → Journal → Record
 convertJob N img r x =
-    busy (r .rest) (placesOf (x .edition) (x .frames))
+    busy (r .rest) (placesIn x)
     (record {
       wipe = noWipes;
       wipes = 0;
@@ -193,9 +199,9 @@ stretchOf start (some x) = record { at = start + x .at; size = length (x .bytes)
 abbrev pub placeOf : ℕ → List ℕ → Record → Journal → ObjectId → Stretch
 placeOf N img r x i =
     stretchOf (r .rest .block * sizeOf N img)
-    (valueAt (x .edition) (block (sizeOf N img) (r .rest .block) img) i (getD (placesOf (x .edition) (x .frames)) (i .0) 0))
+    (valueAt (x .edition) (block (sizeOf N img) (r .rest .block) img) i (getD (placesIn x) (i .0) 0))
 
--- "Reads see settled objects only"; 8: "no such settled object"
+-- "Reads see settled objects only"; 8: "no such settled object". By a scan: `Reads: ServedAsBefore` says that a read by its place is this
 abbrev pub serveRead : Asking → Journal → ObjectId → Option (List ℕ) → Out
 serveRead a x i none = refuseTo a refusal.NoObject
 serveRead a x i (some v) = doneAt a (a .reply) (placeOf (a .blocks) (a .image) (a .board) x i)
@@ -226,11 +232,40 @@ abbrev pub serveHeld : Asking → Option Journal → Out
 serveHeld a none = refuseTo a refusal.Stale
 serveHeld a (some x) = serveParsed a x (parse (a .message))
 
+-- ---- a read by its place, document 02, K8
+
+-- "A message of kind 0x0105 then gets 11, after 1 and before 8, exactly if the length differs or the recorded place holds no legal put or settled frame of
+-- that id"
+abbrev pub readFound : Asking → Option Value → Out
+readFound a none = refuseTo a refusal.Stale
+readFound a (some x) = doneAt a (a .reply) (stretchOf (a .board .rest .block * sizeFor a) (some x))
+
+-- what the recorded block has at a place, by the edition that the record carries
+abbrev pub valueFor : Asking → ObjectId → ℕ → Option Value
+valueFor a i p = valueAt (readsIn (a .board)) (block (sizeFor a) (a .board .rest .block) (a .image)) i p
+
+-- 8 for an id without a place
+unfoldable pub readPlace : Asking → ObjectId → ℕ → Out
+readPlace a i p = cond (eqb p 0) (refuseTo a refusal.NoObject) (readFound a (valueFor a i p))
+
+unfoldable pub readAt : Asking → ObjectId → Out
+readAt a i =
+    cond (sameShape (a .blocks) (length (a .image)) (a .board)) (readPlace a i (getD (a .board .places) (i .0) 0)) (refuseTo a refusal.Stale)
+
+abbrev pub readParsed : Asking → Parsed → Out
+readParsed a Malformed = refuseTo a refusal.Malformed
+readParsed a (Is q) = readAt a (idIn (a .message))
+
+-- "all others still check all of 11"
+abbrev pub requestBy : Asking → Bool → Out
+requestBy a true = readParsed a (parse (a .message))
+requestBy a false = serveHeld a (heldFor a)
+
 -- 5, then 2, then 11
 abbrev pub requestIn : Asking → Phase → Out
 requestIn a (Busy s) = refuseTo a refusal.Busy
 requestIn a Unmounted = refuseTo a refusal.NoStore
-requestIn a Idle = serveHeld a (heldFor a)
+requestIn a Idle = requestBy a (ofReadKind (a .message))
 
 -- 4, then 10
 unfoldable pub requestOn : Asking → Out

@@ -28,7 +28,7 @@ allowed N n =
 
 -- ---- records
 
--- what the fields of a job hold in a record that is in none: zeros
+-- no id has a place; and what the fields of a job hold in a record that is in none: zeros
 unfoldable pub noPlaces : List ℕ
 noPlaces = replicate 256 0
 
@@ -85,13 +85,14 @@ ending z e = landing z (z .edition) (z .block) e
 abbrev pub counting : Rest → List ℕ → Rest
 counting z ps = record { blocks = z .blocks; last = z .last; block = z .block; end = z .end; pending = ps; edition = z .edition }
 
--- a record in no job
-abbrev pub resting : Phase → Rest → Record
-resting p z =
+-- a record in no job, with a place for each id: document 02, K8, "Keep in the record, for every id, where replay finds its settled value or that there is
+-- none"
+abbrev pub resting : Phase → List ℕ → Rest → Record
+resting p places z =
     record {
       phase = p;
       rest = z;
-      places = noPlaces;
+      places = places;
       job = noJob;
       cursor = cursor 0 0 0 0 0 0;
       unit = noFrame;
@@ -107,10 +108,10 @@ makesIn r = editionBy (r .job .edition)
 
 -- "unmounted, idle, or in a job"
 abbrev pub unmounted : Record
-unmounted = resting Unmounted (rest 0 0 0 0 0)
+unmounted = resting Unmounted noPlaces (rest 0 0 0 0 0)
 
-abbrev pub idle : Rest → Record
-idle z = resting Idle z
+abbrev pub idle : List ℕ → Rest → Record
+idle places z = resting Idle places z
 
 -- a job not yet begun, its frame to append in a buffer
 abbrev pub busyWith : Rest → List ℕ → Job → Cursor → List ℕ → Record

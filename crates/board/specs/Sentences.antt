@@ -16,12 +16,11 @@ use Rattle.frame.specs.declared.Edition.the-variants as edition
 use Rattle.frame.specs.Frame.{Change, Frame, change, commit, abort, encode, encodeAll, total}
 use Rattle.frame.specs.ByKind.{withCrc}
 use Rattle.frame.specs.Reader.{Tail, clean, cut, bad}
-use Rattle.frame.specs.declared.Fault.{Fault}
 use Rattle.journal.specs.Replay.{State, state, lookup, framesOf}
 use Rattle.journal.specs.Block.{Journal, blank, blockState, tornLen}
 use Rattle.journal.specs.Room.{claimed}
 use Rattle.journal.specs.Sentences.{ValidBlock}
-use Rattle.journal.specs.Laws.{byEdition, objectsAfter, pendingAfter, changeBytes, CountsAre, TakenFrom}
+use Rattle.journal.specs.Laws.{byEdition, objectsAfter, pendingAfter, changeBytes, CountsAre, PlacesAre, TakenFrom}
 use Rattle.wire.specs.declared.Page.{Page}
 use Rattle.wire.specs.declared.Request.the-variants.{Put, Delete, Commit, Abort, Read, Log, Convert}
 use Rattle.wire.specs.Sentences.{Means}
@@ -155,9 +154,12 @@ pub record ConvertExact : Type 0 where
   pub work : (N : ℕ) (img : List ℕ) (r : Record) (x : Journal)
       → convertWork N img r x .steps ≡ transferPlan edition.Second N (r .rest .block) x (state (objectsAfter (x .frames)) [])
   pub count : (N : ℕ) (img : List ℕ) (r : Record) (x : Journal) → length (convertWork N img r x .steps) + 5 ≡ secondUsed x
+  -- K8: and the places of the frames in the block that is made
+  pub places : (N : ℕ) (img : List ℕ) (r : Record) (x : Journal)
+      → PlacesAre edition.Second (convertWork N img r x .last .places) (framesOf (state (objectsAfter (x .frames)) []))
   pub last : (N j : ℕ) (img : List ℕ) (r : Record) (x : Journal) → NextOf N (r .rest .block) j
       → convertWork N img r x .last
-      ≡ idle (record { blocks = r .rest .blocks; last = r .rest .last; block = j; end = secondUsed x; pending = r .rest .pending; edition = 2 })
+      ≡ idle (convertWork N img r x .last .places) (record { blocks = r .rest .blocks; last = r .rest .last; block = j; end = secondUsed x; pending = r .rest .pending; edition = 2 })
 
 -- a number stands in a list
 abbrev pub Member : ℕ → List ℕ → Type 0
@@ -202,9 +204,10 @@ pub record MendExact (N l k : ℕ) (b : List ℕ) (x : Journal) (w : Work) : Typ
   pub no-reset : replayOf x .pending ≡ [] → resets ≡ []
   pub reset : (replayOf x .pending ≡ [] → ⊥)
       → Programs k (16 + total (x .edition) (x .frames) + tornLen (x .tail)) (resetFrame (x .edition)) resets
-  -- the block stays; the end is past all that was written, and nothing is pending
+  -- the block stays, and with it the places (K8); the end is past all that was written, and nothing is pending
+  pub places : PlacesAre (x .edition) (w .last .places) (x .frames)
   pub last : w .last
-      ≡ idle (record {
+      ≡ idle (w .last .places) (record {
         blocks = N;
         last = l;
         block = k;
@@ -227,6 +230,8 @@ pub record MountSteps (N : ℕ) (img : List ℕ) (x : Store) : Type 0 where
   pub every : (j : ℕ) → Member j erased ↔ ((j < N) × (j ≡ x .number → ⊥) × (blockState (block (sizeOf N img) j img) ≡ blank → ⊥))
   pub moves : DueTransfer (sizeOf N img) (x .journal)
       → after .steps ≡ transferPlan (x .journal .edition) N (x .number) (x .journal) (state (objectsAfter (x .journal .frames)) [])
+  pub moved-places : DueTransfer (sizeOf N img) (x .journal)
+      → PlacesAre (x .journal .edition) (after .last .places) (framesOf (state (objectsAfter (x .journal .frames)) []))
   pub mends : (DueTransfer (sizeOf N img) (x .journal) → ⊥)
       → MendExact N (length img - 1) (x .number) (block (sizeOf N img) (x .number) img) (x .journal) after
 
@@ -258,6 +263,17 @@ pub record CountsExact : Type 0 where
       → CountsAre (x .edition) (r .rest .pending) (x .frames) → countAfter N img r x (abort h) g ≡ countIn r g
   pub mounted : (N : ℕ) (img : List ℕ) (x : Store) → mountWork N img x .last .rest .pending ≡ 0 ∷ 0 ∷ 0 ∷ 0 ∷ []
   pub formatted : (N : ℕ) (img : List ℕ) → formatWork N img .last .rest .pending ≡ 0 ∷ 0 ∷ 0 ∷ 0 ∷ []
+
+-- ---- the places after each job
+
+-- document 02, K8: "Keep in the record, for every id, where replay finds its settled value or that there is none": of the frames with the one that was
+-- appended, in the block where they then stand; a mount's and a convert's are said above
+pub record PlacesExact : Type 0 where
+  pub stays : (N : ℕ) (img : List ℕ) (r : Record) (x : Journal) (f : Frame) → r .rest .end + length (encode (x .edition) f) ≤ sizeOf N img
+      → PlacesAre (x .edition) (frameWork N img r x f .last .places) (x .frames ++ (f ∷ []))
+  pub moves : (N : ℕ) (img : List ℕ) (r : Record) (x : Journal) (f : Frame) → sizeOf N img < r .rest .end + length (encode (x .edition) f)
+      → PlacesAre (x .edition) (frameWork N img r x f .last .places) (framesOf (replayOf x) ++ (f ∷ []))
+  pub formatted : (N : ℕ) (img : List ℕ) → PlacesAre edition.First (formatWork N img .last .places) []
 
 -- ---- a read's stretch
 

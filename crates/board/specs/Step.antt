@@ -6,9 +6,10 @@ use Prim.Native.Nat.{ℕ, suc, _+_}
 use lib.Dec.{eqb, ltb}
 use lib.ListN.{length, getD}
 use Rattle.flash.specs.Flash.{Step, program, erase, apply, block, sizeOf, within, writeStep}
-use Rattle.frame.specs.Frame.{encode, frameLen}
+use Rattle.frame.specs.declared.Host.{Host}
+use Rattle.frame.specs.Frame.{encode, frameLen, kindAt, bodyAt}
 use Rattle.journal.specs.Block.{openWrite, sealWrite, markWrites, closeByte}
-use Rattle.journal.specs.Index.{Load, nextLoad}
+use Rattle.journal.specs.Index.{Load, nextLoad, placeCopied}
 use Rattle.wire.specs.declared.Refusal.the-variants as refusal
 use Rattle.wire.specs.declared.Answer.the-variants.{Done}
 use Rattle.board.specs.declared.Stage.{Stage}
@@ -31,7 +32,7 @@ enter s r = inStage s (first (r .cursor)) r
 
 -- the frame to append, if there is one; else the job is over
 unfoldable pub enterAppend : Record → Record
-enterAppend r = cond (ltb 0 (r .job .size)) (enter Append r) (idle (r .rest))
+enterAppend r = cond (ltb 0 (r .job .size)) (enter Append r) (idle (r .places) (r .rest))
 
 -- the block that was made is the current one
 abbrev pub landed : Record → Record
@@ -50,13 +51,17 @@ landed r =
 unfoldable pub enterDrop : Record → Record
 enterDrop r = cond (r .job .drops) (enter Drop r) (enterAppend (landed r))
 
--- a frame to copy is put into the buffer, by the edition that is made; where none is left the block is sealed
+-- the frame to append is a host's commit
+abbrev pub endsWith : List ℕ → Host → Bool
+endsWith frame h = eqb (getD frame kindAt 0) 3 && eqb (getD frame bodyAt 0) (h .0)
+
+-- a frame to copy is put into the buffer, by the edition that is made, and its id has a new place (K8); where none is left the block is sealed
 abbrev pub loaded : Record → Load → Record
 loaded r u =
     record {
       phase = Busy Copy;
       rest = r .rest;
-      places = r .places;
+      places = placeCopied (endsWith (r .frame)) (r .cursor .at) (u .frame) (r .places);
       job = r .job;
       cursor = cursor 0 (r .cursor .at) (u .id) (u .source) (frameLen (makesIn r) (u .frame)) 0;
       unit = buffer (encode (makesIn r) (u .frame));
@@ -126,7 +131,7 @@ advance N Copy img r =
     (enterCopy N img (inStage Copy (pastFrame (r .cursor)) r))
 advance N Seal img r = onward Seal markWrites r (enterDrop r)
 advance N Drop img r = enterAppend (landed r)
-advance N Append img r = onward Append (r .job .size) r (idle (ending (r .rest) (r .rest .end + r .job .size)))
+advance N Append img r = onward Append (r .job .size) r (idle (r .places) (ending (r .rest) (r .rest .end + r .job .size)))
 advance N Close img r = onward Close (r .job .closes) r (enterAppend r)
 
 -- "the last one answers 0 with the record idle", any other more

@@ -5,23 +5,23 @@ use mathlib.Core.Option.{none, some, Option}
 use mathlib.Core.Bool.{true, Bool, false}
 use mathlib.Core.Path.{_≡_}
 use Prim.Native.Nat.{ℕ, suc, _+_, _*_, _%_, _≤_, _<_, _/_}
-use lib.ListN.{length}
+use lib.ListN.{length, getD, drop}
 use Rattle.flash.specs.Bytes.{Bytes}
 use Rattle.flash.specs.Flash.{Step, block, sizeOf, blockOf, offsetOf}
 use Rattle.frame.specs.declared.Edition.{Edition}
 use Rattle.frame.specs.declared.Edition.the-variants as edition
 use Rattle.frame.specs.declared.Host.{Host}
 use Rattle.frame.specs.declared.ObjectId.{ObjectId}
-use Rattle.frame.specs.Frame.{Frame, put, delete, frameLen, total, change, commit, abort}
+use Rattle.frame.specs.Frame.{Frame, put, delete, encode, frameLen, total, change, commit, abort, MayStand}
 use Rattle.frame.specs.Reader.{fault, clean}
 use Rattle.frame.specs.declared.Fault.{Fault}
 use Rattle.frame.specs.declared.Field.the-variants as field
-use Rattle.journal.specs.Replay.{entry, lookup, isOpen, listOf}
+use Rattle.journal.specs.Replay.{entry, isOpen, listOf}
 use Rattle.journal.specs.Block.{Journal, headerLen, tornLen}
 use Rattle.journal.specs.Faults.{FaultIn}
 use Rattle.journal.specs.Sentences.{BlankBlock, ValidBlock, ForeignBlock}
 use Rattle.journal.specs.Room.{openHosts}
-use Rattle.journal.specs.Laws.{byEdition, settledBytes, CountsAre, changesBytes}
+use Rattle.journal.specs.Laws.{byEdition, settledBytes, CountsAre, changesBytes, Holder, holding, PlacesAre}
 use Rattle.wire.specs.declared.Answer.{Answer}
 use Rattle.wire.specs.declared.Page.{Page}
 use Rattle.wire.specs.declared.Request.{Request}
@@ -32,12 +32,12 @@ use Rattle.board.specs.declared.Stage.{Stage}
 use Rattle.board.specs.declared.Phase.{Phase}
 use Rattle.board.specs.declared.Phase.the-variants.{Unmounted, Idle, Busy}
 use Rattle.board.specs.declared.Record.{Record}
-use Rattle.board.specs.Record.{allowed, Accepted}
+use Rattle.board.specs.Record.{allowed, readsIn, Accepted}
 use Rattle.board.specs.Step.{action}
 use Rattle.board.specs.Mount.{replayOf, claimedOf}
 use Rattle.board.specs.Queue.{held, Asking, asking, sizeFor}
 use Rattle.board.specs.Exec.{Call, request, step, mount, format}
-use Rattle.wire.specs.Sentences.{Means}
+use Rattle.wire.specs.Sentences.{Means, ReadKind}
 
 -- ---- what an accepted request is to do
 
@@ -101,7 +101,7 @@ InJob (Busy s) = Unit {0}
 -- 11: "idle record: its length differs, or the image read afresh isn't: recorded half valid, its last whole frame (or the header, if
 -- none) ending exactly at the recorded end with only 0xFF after it, other half blank, C + 6·open at most S"; K14: "A record of another N gets 11";
 -- K7: "each host's pending bytes as replay gives them; refusal 11 covers any other"; K9: "The record carries the edition ..; elsewhere 11 covers any
--- other", "10 for each 6"
+-- other", "10 for each 6"; K8: "all others still check all of 11, now the places too"
 pub record Fresh (N : ℕ) (img : List ℕ) (r : Record) (x : Journal) : Type 0 where
   pub length-is : length img ≡ suc (r .rest .last)
   pub blocks-are : N ≡ r .rest .blocks
@@ -111,6 +111,7 @@ pub record Fresh (N : ℕ) (img : List ℕ) (r : Record) (x : Journal) : Type 0 
   pub ends : headerLen + total (x .edition) (x .frames) ≡ r .rest .end
   pub edition-is : r .rest .edition ≡ byEdition (x .edition) 1 2
   pub pending : CountsAre (x .edition) (r .rest .pending) (x .frames)
+  pub places : PlacesAre (x .edition) (r .places) (x .frames)
   pub others-blank : (j : ℕ) → j < N → (j ≡ r .rest .block → ⊥) → BlankBlock (block (sizeOf N img) j img)
   pub room : claimedOf x + byEdition (x .edition) 6 10 * openHosts (replayOf x .pending) ≤ sizeOf N img
 
@@ -121,13 +122,29 @@ FreshExact = (N : ℕ) (img : List ℕ) (r : Record) (x : Journal) → Bytes img
 abbrev pub FreshFor : Asking → Journal → Type 0
 FreshFor a x = Fresh (a .blocks) (a .image) (a .board) x
 
--- 8: "read: no such settled object"
-pub record NoObject (a : Asking) : Type 0 where
-  pub holding : Journal
+-- K8: "the recorded place holds .. legal put or settled frame of that id": in the recorded block, from the recorded place on, stand all bytes of such a
+-- frame, by the edition that the record carries. In a block number that isn't there nothing stands
+abbrev pub placeFor : Asking → ObjectId → ℕ
+placeFor a i = getD (a .board .places) (i .0) 0
+
+pub record PlaceHolds (a : Asking) (i : ObjectId) (k : Holder) (v : List ℕ) : Type 0 where
+  pub after : List ℕ
+  pub bytes : drop (placeFor a i) (block (sizeFor a) (a .board .rest .block) (a .image)) ≡ encode (readsIn (a .board)) (holding k i v) ++ after
+  pub legal : MayStand (readsIn (a .board)) 0 (holding k i v)
+
+-- 11 of a read, "exactly if the length differs or the recorded place holds no legal put or settled frame of that id"; or N (K14). An id without a place has
+-- none that could hold one
+pub record PlaceLost (a : Asking) : Type 0 where
   pub id : ObjectId
-  pub is-held : FreshFor a holding
   pub is-asked : Means (a .message) (Read id)
-  pub none-there : lookup id (replayOf holding .objects) ≡ none
+  pub misfits : (length (a .image) ≡ suc (a .board .rest .last) → ⊥) ⊎ ((a .blocks ≡ a .board .rest .blocks → ⊥)
+      ⊎ ((placeFor a id ≡ 0 → ⊥) × ((k : Holder) (v : List ℕ) → PlaceHolds a id k v → ⊥)))
+
+-- 8: "read: no such settled object", by its place
+pub record NoObject (a : Asking) : Type 0 where
+  pub id : ObjectId
+  pub is-asked : Means (a .message) (Read id)
+  pub no-place : placeFor a id ≡ 0
 
 -- 9: "log: reply under 14 bytes"
 pub record ShortReply (a : Asking) : Type 0 where
@@ -197,14 +214,16 @@ pub record Worn (a : Asking) : Type 0 where
   pub moves : Moves a holding (taskFor (a .host) (a .message) holding asked)
   pub last-time : holding .time ≡ 4294967295
 
+-- K8: "A message of kind 0x0105 then gets 11, after 1 and before 8 ..; all others still check all of 11", before 1
 abbrev pub requestLines : Asking → List Line
 requestLines a =
     line 4 (Allowed (a .blocks) (length (a .image)) → ⊥)
     ∷ line 10 (3 < a .host .0)
     ∷ line 5 (InJob (a .board .phase))
     ∷ line 2 (a .board .phase ≡ Unmounted)
-    ∷ line 11 ((x : Journal) → FreshFor a x → ⊥)
+    ∷ line 11 ((ReadKind (a .message) → ⊥) × ((x : Journal) → FreshFor a x → ⊥))
     ∷ line 1 ((q : Request) → Means (a .message) q → ⊥)
+    ∷ line 11 (PlaceLost a)
     ∷ line 8 (NoObject a)
     ∷ line 9 (ShortReply a)
     ∷ line 16 (StillPending a)

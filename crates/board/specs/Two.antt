@@ -96,7 +96,7 @@ formatTwo img = let k : ℕ = lastTwo (stateTwo img 0) (stateTwo img 1) in forma
 abbrev pub heldTwo : List ℕ → Record → Option Journal
 heldTwo img r =
     cond (eqb (length img) (suc (r .rest .last)) && (ltb (r .rest .block) 2 && allFF (block (sizeTwo img) (beside (r .rest .block)) img)))
-    (heldIn (sizeTwo img) (r .rest) (stateTwo img (r .rest .block))) none
+    (heldIn (sizeTwo img) r (stateTwo img (r .rest .block))) none
 
 -- "after a transfer if end + n exceeds S", "into the blank half"
 abbrev pub frameTwo : List ℕ → Record → Journal → Frame → Work

@@ -1,11 +1,11 @@
--- A shift is linear in exclusive or, so four of them move the bits above down and add what the lowest four leave.
+-- A shift is linear in exclusive or, so some of them move the bits above down and add what the lowest four leave.
 use mathlib.Core.Path.{_≡_, refl, sym, ap, ap₂, _∙_}
 use Prim.Native.Nat.{ℕ, zero, suc, _+_, _*_, _/_, _%_, _^_, _<_}
 use native.Mathlib.Nat.{zero-mul, mul-one, mul-assoc, pow-suc}
 use native.Mathlib.Omega.{arith}
 use lib.Arith.{bin-ind}
 use lib.Bits.{bitXor, xor-zero-r, xor-comm, xor-self, xor-shr, xor-mod, xor-shifted}
-use Rattle.crc.specs.Crc.{times, shift32}
+use Rattle.crc.specs.Crc.{times, shift32, shifted32}
 
 -- what holds of 0 and of 1 holds of a lowest bit
 bit : (P : ℕ → Type 0) → P 0 → P 1 → (a : ℕ) → P (a % 2)
@@ -81,12 +81,24 @@ above (suc n) a =
     ∙ ap (times n shift32) (even (a * 2 ^ n))
     ∙ above n a
 
--- four shifts: the bits above move down, and what the lowest four leave is added
-pub by-entry : (x : ℕ) → bitXor (x / 16) (times 4 shift32 (x % 16)) ≡ times 4 shift32 x
-by-entry x =
-    sym (ap (times 4 shift32) (sym (xor-shifted (x / 16) 4 (x % 16) (omega arith) ∙ whole x))
-    ∙ linear-times 4 (x / 16 * 16) (x % 16)
-    ∙ ap (λ y. bitXor y (times 4 shift32 (x % 16))) (above 4 (x / 16)))
+-- four more shifts: the bits above move down, and what the lowest four leave is added
+pub by-entry : (n x : ℕ)
+    → bitXor (times n shift32 (x / 16)) (times (suc (suc (suc (suc n)))) shift32 (x % 16)) ≡ times (suc (suc (suc (suc n)))) shift32 x
+by-entry n x =
+    let m : ℕ = suc (suc (suc (suc n))) in
+    sym (ap (times m shift32) (sym (xor-shifted (x / 16) 4 (x % 16) (omega arith) ∙ whole x))
+    ∙ linear-times m (x / 16 * 16) (x % 16)
+    ∙ ap (λ y. bitXor (times n shift32 y) (times m shift32 (x % 16))) (above 4 (x / 16)))
   where
     whole : (x : ℕ) → x / 16 * 16 + x % 16 ≡ x
     whole x = omega arith
+
+-- a second byte comes in eight shifts later
+pub by-two : (c a b : ℕ) → a < 256 → times 16 shift32 (bitXor c (a + b * 256)) ≡ shifted32 (bitXor (shifted32 (bitXor c a)) b)
+unfolding shifted32
+by-two c a b h =
+    ap (times 16 shift32) (ap (bitXor c) (sum ∙ sym (xor-shifted b 8 a h) ∙ xor-comm (b * 256) a) ∙ sym (xor-assoc c a (b * 256)))
+    ∙ ap (times 8 shift32) (linear-times 8 (bitXor c a) (b * 256) ∙ ap (bitXor (times 8 shift32 (bitXor c a))) (above 8 b))
+  where
+    sum : a + b * 256 ≡ b * 256 + a
+    sum = omega arith

@@ -9,11 +9,11 @@ use Rattle.frame.specs.Frame.{bufferLen}
 use Rattle.board.specs.declared.Cursor.{Cursor}
 use Rattle.board.specs.declared.Record.{Record}
 use Rattle.board.specs.declared.Rest.{Rest}
-use Rattle.board.specs.Record.{idle, cursor, answerOf}
-use Rattle.board.specs.Step.{sameShape, stepped}
+use Rattle.board.specs.Record.{cursor, answerOf}
+use Rattle.board.specs.Step.{stepped}
 use Rattle.board.specs.Drive.{Drove, runFrom}
 use Rattle.job.specs.declared.records.Numbers.{Numbers}
-use Rattle.job.specs.Code.{leaves}
+use Rattle.job.specs.Code.{fits, leaves}
 use Rattle.drive.specs.declared.bursts.Lane.{Lane}
 use Rattle.drive.specs.declared.runs.Ran.{Ran}
 use Rattle.drive.specs.declared.runs.Driven.{Driven}
@@ -34,7 +34,7 @@ appendLane n = record { block = n .rest .block; at = n .rest .end + n .cursor .i
 
 -- k bytes of a frame stop short of its last one, and their places lie in an image of N blocks and a length, the record's
 pub record Short (N len : ℕ) (z : Rest) (l : Lane) (k : ℕ) : Type 0 where
-  pub same : sameShape N len (idle z) ≡ true
+  pub same : fits N len z ≡ true
   pub count : isCount N ≡ true
   pub there : l .block < N
   pub room : k + l .at ≤ sizeIn N len

@@ -70,10 +70,10 @@ pub fn next(len: usize, blocks: u8, board: Record) -> Next
 pub fn made(image: &[u8], blocks: u8, board: Record) -> Outcome
     ensures { λ r. ⌜ (let o : Out = madeOn blocks (now (image .entry)) board in (r .answer ≡ o .answer) × (r .board ≡ o .board)) ⌝ }
 {
-    let places = board.places;
+    let mut places = board.places;
     let mut unit = board.unit;
     let frame = board.frame;
     let m = job::made_of(image.len(), blocks, records::numbers_of(board));
-    let s = job::load_due(image, blocks, m, &places, &mut unit);
+    let s = job::load_due(image, blocks, m, &mut places, &mut unit, &frame);
     records::give_back(s, places, unit, frame)
 }

@@ -25,13 +25,13 @@ fn run_busy(
     image: &mut [u8],
     blocks: u8,
     n: Numbers,
-    places: &[u16; 256],
+    places: &mut [u16; 256],
     unit: &mut [u8; BUFFER_LEN],
     frame: &[u8; BUFFER_LEN],
     most: usize,
 ) -> Ran
     requires { ⌜ answerIn (n .phase) ≡ More ⌝ }
-    ensures { λ r. ⌜ Runs r (now (places .entry)) (now (unit .exit)) (now (frame .entry)) (now (image .exit))
+    ensures { λ r. ⌜ Runs r (now (places .exit)) (now (unit .exit)) (now (frame .entry)) (now (image .exit))
         (runOn blocks most (now (image .entry)) (assemble n (now (places .entry)) (now (unit .entry)) (now (frame .entry)))) ⌝ }
 {
     let mut m = n;
@@ -61,17 +61,17 @@ fn run_busy(
     }
 }
 
-// Inner part of run, by value and over bytes. A run by a record's numbers, its arrays lent. Where the job ended the arrays are the caller's to clear.
+// Inner part of run, by value and over bytes. A run by a record's numbers, its arrays lent. Where the job ended the frames are the caller's to clear.
 pub fn run_core(
     image: &mut [u8],
     blocks: u8,
     n: Numbers,
-    places: &[u16; 256],
+    places: &mut [u16; 256],
     unit: &mut [u8; BUFFER_LEN],
     frame: &[u8; BUFFER_LEN],
     most: usize,
 ) -> Ran
-    ensures { λ r. ⌜ Runs r (now (places .entry)) (now (unit .exit)) (now (frame .entry)) (now (image .exit))
+    ensures { λ r. ⌜ Runs r (now (places .exit)) (now (unit .exit)) (now (frame .entry)) (now (image .exit))
         (runOn blocks most (now (image .entry)) (assemble n (now (places .entry)) (now (unit .entry)) (now (frame .entry)))) ⌝ }
 {
     let phase = n.phase;
@@ -98,14 +98,14 @@ pub struct Driven {
 pub fn run(image: &mut [u8], blocks: u8, most: usize, board: Record) -> Driven
     ensures { λ r. ⌜ Drives r (now (image .exit)) (runOn blocks most (now (image .entry)) board) ⌝ }
 {
-    let places = board.places;
+    let mut places = board.places;
     let mut unit = board.unit;
     let frame = board.frame;
     let ran = run_core(
         image,
         blocks,
         records::numbers_of(board),
-        &places,
+        &mut places,
         &mut unit,
         &frame,
         most,

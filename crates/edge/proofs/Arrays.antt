@@ -2,22 +2,24 @@
 use mathlib.Core.Path.{_≡_, refl, sym, ap, subst, _∙_}
 use mathlib.Core.List.{List, [], _∷_, map}
 use mathlib.Core.Option.{Option, none, some}
-use mathlib.Core.Bool.{true, _&&_, _||_}
+use mathlib.Core.Bool.{Bool, true, false, _&&_, _||_}
 use Prim.Native.Nat.{ℕ, zero, suc, _+_, _-_, _≤_}
 use native.Mathlib.Omega.{arith}
 use lib.Dec.{eqb, ltb}
-use lib.ListN.{length, getD, take, drop, replicate, length-append, length-map, length-replicate}
+use lib.ListN.{length, getD, take, drop, replicate, length-append, length-map, length-replicate, length-set}
 use Rattle.flash.specs.Flash.{maxBlocks, blockNumbers, apply, sizeOf, within, Write}
 use Rattle.flash.proofs.Cases.{on-test}
 use Rattle.frame.specs.declared.Edition.{Edition}
 use Rattle.frame.specs.declared.Edition.the-variants as edition
+use Rattle.frame.specs.declared.Host.{Host}
 use Rattle.frame.specs.declared.ObjectId.{ObjectId}
-use Rattle.frame.specs.Frame.{valueMax, bufferLen, idOf, Frame, settled, reset, frameLen, encode, buffer}
+use Rattle.frame.specs.Frame.{valueMax, bufferLen, idOf, ChangeOf, put, delete, Frame, change, commit, abort, settled, closed, reset, mapChange}
+use Rattle.frame.specs.Frame.{frameLen, encode, buffer}
 use Rattle.frame.specs.Reader.{Read, blank, whole, torn, wrong, readFrame}
 use Rattle.frame.proofs.Encode.{length-encode, frame-fits}
 use Rattle.journal.specs.Replay.{Entry}
 use Rattle.journal.specs.Block.{Journal, lastTime, markWrites}
-use Rattle.journal.specs.Index.{Value, valueAt, Load, load, nextSettled, isPending, nextPending, orElse, nextLoad}
+use Rattle.journal.specs.Index.{Value, valueAt, Load, load, nextSettled, isPending, nextPending, orElse, nextLoad, placeIf, placeCopied}
 use Rattle.journal.proofs.Places.{length-places}
 use Rattle.fetch.proofs.FrameReads.{whole-stands}
 use Rattle.fetch.proofs.Fetching.{in-block, pending-blank, pending-torn, pending-wrong, pending-yes}
@@ -32,8 +34,8 @@ use Rattle.board.specs.declared.Phase.the-variants.{Unmounted, Idle, Busy}
 use Rattle.board.specs.declared.Cursor.{Cursor}
 use Rattle.board.specs.declared.Rest.{Rest}
 use Rattle.board.specs.declared.Record.{Record}
-use Rattle.board.specs.Record.{allowed, noPlaces, noFrame, resting, inStage, makesIn, Out, answerIn}
-use Rattle.board.specs.Step.{enterAppend, landed, enterDrop, loaded, enterCopy, enterClose, enterOpen, enterWipe, begin, action}
+use Rattle.board.specs.Record.{allowed, noPlaces, noFrame, resting, unmounted, inStage, makesIn, Out, answerIn}
+use Rattle.board.specs.Step.{enterAppend, landed, enterDrop, endsWith, loaded, enterCopy, enterClose, enterOpen, enterWipe, begin, action}
 use Rattle.board.specs.Step.{advance, sameShape, stepOn}
 use Rattle.board.specs.Mount.{Found, Store, allFound, found, stores, equalTimes, newest, isBlank, wipeList, wipeArray, upkeep, transfers, mountJob}
 use Rattle.board.specs.Mount.{mountOn, timeOf, Upkeep, rests, mends, moves, endOf, closesFor, appendsFor, resetBytes, standsFor, closeArray, blockIn}
@@ -49,9 +51,13 @@ use Rattle.lent.proofs.Inverse.{Sized}
 
 -- ---- a record in no job, in a stage, with the block that was made
 
-pub rests-sized : (p : Phase) (z : Rest) → length (z .pending) ≡ 4 → Sized (resting p z)
-unfolding noPlaces noFrame
-rests-sized p z h = record { pending = h; places = refl; wipe = refl; since = refl; close = refl; unit = refl; frame = refl }
+rests-sized : (p : Phase) (t : List ℕ) (z : Rest) → length t ≡ 256 → length (z .pending) ≡ 4 → Sized (resting p t z)
+unfolding noFrame
+rests-sized p t z k h = record { pending = h; places = k; wipe = refl; since = refl; close = refl; unit = refl; frame = refl }
+
+no-store : Sized unmounted
+unfolding noPlaces
+no-store = rests-sized Unmounted noPlaces _ refl refl
 
 stage-sized : (s : Stage) (c : Cursor) (r : Record) → Sized r → Sized (inStage s c r)
 stage-sized s c r h = record { pending = h .pending; places = h .places; wipe = h .wipe; since = h .since; close = h .close; unit = h .unit; frame = h .frame }
@@ -126,7 +132,7 @@ append-sized : (r : Record) → Sized r → Sized (enterAppend r)
 append-sized r h =
     on-test (ltb 0 (r .job .size))
     (λ t. subst Sized (sym (outcome.append-enters r t)) (stage-sized Append _ r h))
-    (λ t. subst Sized (sym (outcome.append-skips r t)) (rests-sized Idle _ (h .pending)))
+    (λ t. subst Sized (sym (outcome.append-skips r t)) (rests-sized Idle _ _ (h .places) (h .pending)))
 
 drop-sized : (r : Record) → Sized r → Sized (enterDrop r)
 drop-sized r h =
@@ -134,11 +140,24 @@ drop-sized r h =
     (λ t. subst Sized (sym (outcome.drop-enters r t)) (stage-sized Drop _ r h))
     (λ t. subst Sized (sym (outcome.drop-skips r t)) (append-sized (landed r) (landed-sized r h)))
 
+copied-sized : (ends : Host → Bool) (o : ℕ) (f : Frame) (t : List ℕ) → length (placeCopied ends o f t) ≡ length t
+copied-sized ends o (change h c) t = by (ends h) c
+  where
+    by : (b : Bool) (c : ChangeOf (List ℕ)) → length (placeIf b (mapChange (λ v. o) c) t) ≡ length t
+    by true (put i v) = length-set t (i .0) o
+    by true (delete i) = length-set t (i .0) 0
+    by false c = refl
+copied-sized ends o (commit h) t = refl
+copied-sized ends o (abort h) t = refl
+copied-sized ends o (settled i v) t = length-set t (i .0) o
+copied-sized ends o (closed v) t = refl
+copied-sized ends o reset t = refl
+
 loaded-sized : (r : Record) (u : Load) → Short (u .frame) → Sized r → Sized (loaded r u)
 loaded-sized r u s h =
     record {
       pending = h .pending;
-      places = h .places;
+      places = copied-sized (endsWith (r .frame)) (r .cursor .at) (u .frame) (r .places) ∙ h .places;
       wipe = h .wipe;
       since = h .since;
       close = h .close;
@@ -194,7 +213,7 @@ advance-sized N Drop img r h = subst Sized (sym (outcome.drop-last N img r)) (ap
 advance-sized N Append img r h =
     on-test (ltb (suc (r .cursor .index)) (r .job .size))
     (λ t. subst Sized (sym (outcome.append-next N img r t)) (stage-sized Append _ r h))
-    (λ t. subst Sized (sym (outcome.append-last N img r t)) (rests-sized Idle _ (h .pending)))
+    (λ t. subst Sized (sym (outcome.append-last N img r t)) (rests-sized Idle _ _ (h .places) (h .pending)))
 advance-sized N Close img r h =
     on-test (ltb (suc (r .cursor .index)) (r .job .closes))
     (λ t. subst Sized (sym (outcome.close-next N img r t)) (stage-sized Close _ r h))
@@ -296,7 +315,7 @@ abbrev pub Left : Out → Type 0
 Left o = Sized (o .board)
 
 pub mount-sized : (N : ℕ) (img : List ℕ) → Left (mountOn N img)
-mount-sized N img = on-test (allowed N (length img)) goes (λ t. subst Left (sym (outcome.mount-length N img t)) (rests-sized Unmounted _ refl))
+mount-sized N img = on-test (allowed N (length img)) goes (λ t. subst Left (sym (outcome.mount-length N img t)) no-store)
   where
     few : allowed N (length img) ≡ true → (k : ℕ) → length (wipeList k (allFound N img)) ≤ maxBlocks
     few t k =
@@ -306,15 +325,15 @@ mount-sized N img = on-test (allowed N (length img)) goes (λ t. subst Left (sym
     goes t = by (stores (allFound N img)) refl
       where
         by : (ys : List Store) → stores (allFound N img) ≡ ys → Left (mountOn N img)
-        by [] e = subst Left (sym (outcome.mount-none N img t e)) (rests-sized Unmounted _ refl)
+        by [] e = subst Left (sym (outcome.mount-none N img t e)) no-store
         by (y ∷ ys) e =
             on-test (equalTimes (y ∷ ys))
-            (λ q. subst Left (sym (outcome.mount-equal N img t y ys e q)) (rests-sized Unmounted _ refl))
+            (λ q. subst Left (sym (outcome.mount-equal N img t y ys e q)) no-store)
             (λ q.
             let x : Store = newest y ys in
             let m = outcome.mount-at N img t y ys e q in
             on-test (transfers (upkeep (sizeOf N img) x) && eqb (timeOf x) lastTime)
-            (λ w. subst Left (sym (m ∙ outcome.mount-worn N img (allFound N img) x w)) (rests-sized Unmounted _ refl))
+            (λ w. subst Left (sym (m ∙ outcome.mount-worn N img (allFound N img) x w)) no-store)
             (λ w. subst Left (sym (m ∙ outcome.mount-begins N img (allFound N img) x w))
             (wipe-sized _ (mount-job-sized N img x (wipeList (x .number) (allFound N img)) (upkeep (sizeOf N img) x) (few t (x .number))))))
 
@@ -334,4 +353,4 @@ format-sized N img =
       frame = refl;
     } in
     subst Leaves (sym (outcome.format-begins N img t)) (begun img [] (formatJob N img) s))
-    (λ t. subst Leaves (sym (outcome.format-length N img t)) (rests-sized Unmounted _ refl, tt))
+    (λ t. subst Leaves (sym (outcome.format-length N img t)) (no-store, tt))

@@ -1,8 +1,8 @@
 -- What a request leaves: the record itself where it is done, refused or a read, arrays at their lengths, and a stretch for a read alone.
 use mathlib.Core.Path.{_≡_, refl, sym, ap, subst, _∙_}
-use mathlib.Core.List.{List, [], _∷_}
+use mathlib.Core.List.{List, [], _∷_, _++_}
 use mathlib.Core.Option.{Option, none, some}
-use mathlib.Core.Bool.{true, false, true≢false, _&&_}
+use mathlib.Core.Bool.{Bool, true, false, _&&_}
 use Prim.Native.Nat.{ℕ, _≤_}
 use native.Mathlib.Omega.{arith}
 use lib.Dec.{eqb, ltb, leb}
@@ -14,7 +14,7 @@ use Rattle.frame.specs.declared.Edition.the-variants as edition
 use Rattle.frame.specs.declared.Host.{Host}
 use Rattle.frame.specs.declared.ObjectId.{ObjectId}
 use Rattle.frame.specs.Frame.{hostMax, valueMax, Change, put, delete, Frame, change, commit, abort, frameLen}
-use Rattle.journal.specs.Replay.{Entry, lookup, isOpen}
+use Rattle.journal.specs.Replay.{Entry, isOpen}
 use Rattle.journal.specs.Block.{Journal, lastTime}
 use Rattle.journal.specs.Room.{used, noRoom, hostFull}
 use Rattle.journal.proofs.Places.{length-places}
@@ -25,9 +25,10 @@ use Rattle.wire.specs.declared.Request.{Request}
 use Rattle.wire.specs.declared.Request.the-variants.{Put, Delete, Commit, Abort, Read, Log, Convert}
 use Rattle.wire.specs.declared.Parsed.{Parsed}
 use Rattle.wire.specs.declared.Parsed.the-variants.{Is, Malformed}
-use Rattle.wire.specs.Message.{parse, valueIn, pageLen}
-use Rattle.wire.specs.Sentences.{Means, MessagesExact}
-use Rattle.wire.proofs.Sentences.{messages-exact}
+use Rattle.wire.specs.Message.{parse, valueIn, pageLen, ofReadKind, idIn}
+use Rattle.wire.specs.Sentences.{Means, MessagesExact, ReadKindExact}
+use Rattle.wire.proofs.Sentences.{messages-exact, read-kind-exact, read-asked}
+use Rattle.board.proofs.Reading.{no-read}
 use Rattle.board.specs.declared.Phase.{Phase}
 use Rattle.board.specs.declared.Phase.the-variants.{Unmounted, Idle, Busy}
 use Rattle.board.specs.declared.Record.{Record}
@@ -35,9 +36,10 @@ use Rattle.board.specs.Record.{allowed, noFrame, noStretch, Out, out, answerOf}
 use Rattle.board.specs.Step.{enterWipe}
 use Rattle.board.specs.Mount.{replayOf}
 use Rattle.board.specs.Queue.{appendJob, convertJob, append, convert, serveChange, serveEnd, serveConvert, serve, requestOn, Asking, sizeFor, heldFor, movesFor}
+use Rattle.board.specs.Queue.{placesFor, readAt}
 use Rattle.board.proofs.Outcomes as outcome
 use Rattle.lent.proofs.Inverse.{Sized}
-use Rattle.edge.specs.Edge.{isRead, asRead}
+use Rattle.queue.specs.Calls.{readAs}
 use Rattle.edge.proofs.Arrays.{Short, buffer-sized, Plain, Leaves, begun}
 
 -- ---- a read's message asks for nothing else
@@ -53,22 +55,17 @@ AsksRead (Is (Read i)) = Unit {0}
 AsksRead (Is (Log p)) = ⊥
 AsksRead (Is Convert) = ⊥
 
-pub reads-only : (m : List ℕ) → AsksRead (parse (asRead m))
-unfolding parse
-reads-only m = by (parse m) refl
-  where
-    none : isRead (parse m) ≡ false → AsksRead (parse (asRead m))
-    none e = rw e tt
+asks-read : (m : List ℕ) → ofReadKind m ≡ true → (q : Request) → parse m ≡ Is q → parse m ≡ Is (Read (idIn m))
+unfolding MessagesExact ReadKindExact
+asks-read m k q e = e ∙ ap Is (read-asked m q (messages-exact m q .0 e) (read-kind-exact m .0 k))
 
-    by : (p : Parsed) → parse m ≡ p → AsksRead (parse (asRead m))
-    by Malformed e = none (ap isRead e)
-    by (Is (Put i)) e = none (ap isRead e)
-    by (Is (Delete i)) e = none (ap isRead e)
-    by (Is Commit) e = none (ap isRead e)
-    by (Is Abort) e = none (ap isRead e)
-    by (Is (Read i)) e = let t : isRead (parse m) ≡ true = ap isRead e in rw (t, e) tt
-    by (Is (Log p)) e = none (ap isRead e)
-    by (Is Convert) e = none (ap isRead e)
+pub reads-only : (m : List ℕ) → AsksRead (parse (readAs m))
+unfolding parse
+reads-only m = on-test (ofReadKind m) (λ k. rw k (by (parse m) refl k)) (λ k. rw k tt)
+  where
+    by : (p : Parsed) → parse m ≡ p → ofReadKind m ≡ true → AsksRead (parse m)
+    by Malformed e k = rw e tt
+    by (Is q) e k = subst AsksRead (sym (asks-read m k q e)) tt
 
 -- ---- what is served
 
@@ -97,7 +94,7 @@ module _ (a : Asking) (s : Sized (a .board)) where
   pub record Serves (o : Out) : Type 0 where
     pub leaves : Leaves o
     pub done : o .answer ≡ Done → o .board ≡ a .board
-    pub place : isRead (parse (a .message)) ≡ false → o .stretch ≡ noStretch
+    pub place : ((i : ObjectId) → parse (a .message) ≡ Is (Read i) → ⊥) → o .stretch ≡ noStretch
     pub read : AsksRead (parse (a .message)) → (o .board ≡ a .board) × (o .reply ≡ a .reply)
 
   kept : (w : Answer) → Plain w → Serves (out w (a .image) (a .board) (a .reply))
@@ -106,12 +103,16 @@ module _ (a : Asking) (s : Sized (a .board)) where
   abbrev job : Journal → Frame → Record
   job x f = appendJob (a .blocks) (a .image) (a .board) x f
 
+  places-sized : (b : Bool) (x : Journal) (f : Frame) → length (placesFor b x f) ≡ 256
+  places-sized true x f = length-places (x .edition) (x .frames)
+  places-sized false x f = length-places (x .edition) (x .frames ++ (f ∷ []))
+
   job-sized : (x : Journal) (f : Frame) → Short f → Sized (job x f)
   unfolding noFrame
   job-sized x f k =
       record {
         pending = refl;
-        places = length-places (x .edition) (x .frames);
+        places = places-sized (movesFor a x f) x f;
         wipe = refl;
         since = refl;
         close = refl;
@@ -188,46 +189,55 @@ module _ (a : Asking) (s : Sized (a .board)) where
           (λ t. subst Serves (sym (outcome.convert-goes a x p t)) (converted not x (x .edition)))
 
   -- a put's value is at most the longest
-  served : (x : Journal) (q : Request) → parse (a .message) ≡ Is q → Means (a .message) q → Serves (serve a x q)
-  served x (Put i) z w =
+  served : ofReadKind (a .message) ≡ false → (x : Journal) (q : Request) → parse (a .message) ≡ Is q → Means (a .message) q → Serves (serve a x q)
+  served k x (Put i) z w =
       subst Serves (sym (outcome.serve-put a x i))
       (changed (subst AsksRead z) x (put i (valueIn (a .message)))
       (put-short (a .host) i (valueIn (a .message)) (omega (arith, w .2, length-drop 6 (a .message)))))
-  served x (Delete i) z w = subst Serves (sym (outcome.serve-delete a x i)) (changed (subst AsksRead z) x (delete i) (delete-short (a .host) i))
-  served x Commit z w = subst Serves (sym (outcome.serve-commit a x)) (ended (subst AsksRead z) x (commit (a .host)) (commit-short (a .host)))
-  served x Abort z w = subst Serves (sym (outcome.serve-abort a x)) (ended (subst AsksRead z) x (abort (a .host)) (abort-short (a .host)))
-  served x (Read i) z w = by (lookup i (replayOf x .objects)) refl
-    where
-      by : (o : Option (List ℕ)) → lookup i (replayOf x .objects) ≡ o → Serves (serve a x (Read i))
-      by none e = subst Serves (sym (outcome.read-none a x i e)) (kept _ tt)
-      by (some v) e =
-          subst Serves (sym (outcome.read-some a x i v e))
-          (record { leaves = (s, tt); done = λ _. refl; place = λ f. absurd (true≢false (sym (ap isRead z) ∙ f)); read = λ _. (refl, refl) })
-  served x (Log Summary) z w =
+  served k x (Delete i) z w = subst Serves (sym (outcome.serve-delete a x i)) (changed (subst AsksRead z) x (delete i) (delete-short (a .host) i))
+  served k x Commit z w = subst Serves (sym (outcome.serve-commit a x)) (ended (subst AsksRead z) x (commit (a .host)) (commit-short (a .host)))
+  served k x Abort z w = subst Serves (sym (outcome.serve-abort a x)) (ended (subst AsksRead z) x (abort (a .host)) (abort-short (a .host)))
+  served k x (Read i) z w = absurd (no-read (a .message) k i z)
+  served k x (Log Summary) z w =
       on-test (ltb (length (a .reply)) pageLen)
       (λ t. subst Serves (sym (outcome.serve-log a x ∙ outcome.log-short a x t)) (kept _ tt))
       (λ t. subst Serves (sym (outcome.serve-log a x ∙ outcome.log-done a x t))
       (record { leaves = (s, tt); done = λ _. refl; place = λ _. refl; read = λ y. absurd (subst AsksRead z y) }))
-  served x Convert z w = subst Serves (sym (outcome.serve-convert a x)) (moved (subst AsksRead z) x)
+  served k x Convert z w = subst Serves (sym (outcome.serve-convert a x)) (moved (subst AsksRead z) x)
 
   means : (q : Request) → parse (a .message) ≡ Is q → Means (a .message) q
   unfolding MessagesExact
   means q = messages-exact (a .message) q .0
 
+  -- a read by its place
+  placed : (i : ObjectId) → parse (a .message) ≡ Is (Read i) → outcome.ReadCase a i → Serves (readAt a i)
+  placed i w (outcome.misshapen t e) = subst Serves (sym e) (kept _ tt)
+  placed i w (outcome.absent t z e) = subst Serves (sym e) (kept _ tt)
+  placed i w (outcome.lost t z v e) = subst Serves (sym e) (kept _ tt)
+  placed i w (outcome.found x t z v e) =
+      subst Serves (sym e) (record { leaves = (s, tt); done = λ _. refl; place = λ f. absurd (f i w); read = λ _. (refl, refl) })
+
   asked : allowed (a .blocks) (length (a .image)) ≡ true → leb (a .host .0) hostMax ≡ true → Serves (requestOn a)
   asked ok e = by (a .board .phase) refl
     where
-      of : (x : Journal) → a .board .phase ≡ Idle → heldFor a ≡ some x → (p : Parsed) → parse (a .message) ≡ p → Serves (requestOn a)
-      of x i y Malformed z = subst Serves (sym (outcome.request-malformed a ok e x i y z)) (kept _ tt)
-      of x i y (Is q) z = subst Serves (sym (outcome.request-served a ok e x q i y z)) (served x q z (means q z))
+      reading : ofReadKind (a .message) ≡ true → a .board .phase ≡ Idle → (p : Parsed) → parse (a .message) ≡ p → Serves (requestOn a)
+      reading k i Malformed z = subst Serves (sym (outcome.read-malformed a ok e k i z)) (kept _ tt)
+      reading k i (Is q) z =
+          subst Serves (sym (outcome.read-placed a ok e k i q z))
+          (placed (idIn (a .message)) (asks-read (a .message) k q z) (outcome.read-case a (idIn (a .message))))
 
-      in-idle : a .board .phase ≡ Idle → (o : Option Journal) → heldFor a ≡ o → Serves (requestOn a)
-      in-idle i none y = subst Serves (sym (outcome.request-stale a ok e i y)) (kept _ tt)
-      in-idle i (some x) y = of x i y (parse (a .message)) refl
+      of : ofReadKind (a .message) ≡ false → (x : Journal) → a .board .phase ≡ Idle → heldFor a ≡ some x → (p : Parsed) → parse (a .message) ≡ p
+          → Serves (requestOn a)
+      of k x i y Malformed z = subst Serves (sym (outcome.request-malformed a ok e k i x y z)) (kept _ tt)
+      of k x i y (Is q) z = subst Serves (sym (outcome.request-served a ok e k i x q y z)) (served k x q z (means q z))
+
+      in-idle : ofReadKind (a .message) ≡ false → a .board .phase ≡ Idle → (o : Option Journal) → heldFor a ≡ o → Serves (requestOn a)
+      in-idle k i none y = subst Serves (sym (outcome.request-stale a ok e k i y)) (kept _ tt)
+      in-idle k i (some x) y = of k x i y (parse (a .message)) refl
 
       by : (p : Phase) → a .board .phase ≡ p → Serves (requestOn a)
       by Unmounted i = subst Serves (sym (outcome.request-in a ok e i)) (kept _ tt)
-      by Idle i = in-idle i (heldFor a) refl
+      by Idle i = on-test (ofReadKind (a .message)) (λ k. reading k i (parse (a .message)) refl) (λ k. in-idle k i (heldFor a) refl)
       by (Busy g) i = subst Serves (sym (outcome.request-in a ok e i)) (kept _ tt)
 
   pub serves : Serves (requestOn a)

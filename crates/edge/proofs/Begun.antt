@@ -1,7 +1,7 @@
--- What mount, format, requests and reads leave in the buffers that they are lent.
+-- What mount, format and requests leave in the buffers that they are lent.
 use mathlib.Core.Path.{_≡_, refl, sym, ap, _∙_}
 use mathlib.Core.List.{List}
-use mathlib.Core.Bool.{true, false}
+use mathlib.Core.Bool.{false}
 use Prim.Native.Nat.{ℕ}
 use native.Mathlib.Omega.{arith}
 use lib.Dec.{leb}
@@ -13,11 +13,7 @@ use Rattle.wire.specs.declared.Answer.{Answer}
 use Rattle.wire.specs.declared.Answer.the-variants.{Done, More, Refused}
 use Rattle.wire.specs.declared.Refusal.{Refusal}
 use Rattle.wire.specs.declared.Refusal.the-variants as refusal
-use Rattle.wire.specs.declared.Parsed.{Parsed}
-use Rattle.wire.specs.declared.Parsed.the-variants.{Is, Malformed}
-use Rattle.wire.specs.declared.Request.the-variants.{Put, Delete, Commit, Abort, Read, Log, Convert}
 use Rattle.wire.specs.Answer.{edgeNumber}
-use Rattle.wire.specs.Message.{parse}
 use Rattle.board.specs.declared.Phase.{Phase}
 use Rattle.board.specs.declared.Phase.the-variants.{Unmounted, Idle, Busy}
 use Rattle.board.specs.Record.{allowed, noFrame, Out}
@@ -29,9 +25,8 @@ use Rattle.job.specs.declared.records.Stepped.{Stepped}
 use Rattle.job.specs.Code.{assemble}
 use Rattle.store.specs.Calls.{Gives}
 use Rattle.serving.specs.Calls.{keptOr, Asks}
-use Rattle.queue.specs.Calls.{readAs}
 use Rattle.pack.specs.Code.{ReadsAs, intoIf, ReadsAsIf}
-use Rattle.edge.specs.Edge.{Edge, anew, written, isRead, asRead, ReadsBack}
+use Rattle.edge.specs.Edge.{Edge, anew, written, ReadsBack}
 use Rattle.edge.proofs.Buffers.{filled}
 
 -- ---- mount and format write the record that they give back
@@ -83,22 +78,3 @@ done-rests a d = by (a .board .phase) refl
         (λ k. no refusal.Busy (request-in a ok k e))
         (λ k. no refusal.HostRange (request-host a ok k)))
         (λ n. no refusal.ImageLength (request-length a n))
-
--- ---- a read's message counts as itself
-
-pub asks-read : (m : List ℕ) → readAs (parse (asRead m)) (asRead m) ≡ asRead m
-unfolding parse
-asks-read m = by (parse m) refl
-  where
-    none : isRead (parse m) ≡ false → readAs (parse (asRead m)) (asRead m) ≡ asRead m
-    none e = rw e refl
-
-    by : (p : Parsed) → parse m ≡ p → readAs (parse (asRead m)) (asRead m) ≡ asRead m
-    by Malformed e = none (ap isRead e)
-    by (Is (Put i)) e = none (ap isRead e)
-    by (Is (Delete i)) e = none (ap isRead e)
-    by (Is Commit) e = none (ap isRead e)
-    by (Is Abort) e = none (ap isRead e)
-    by (Is (Read i)) e = let t : isRead (parse m) ≡ true = ap isRead e in rw (t, e) refl
-    by (Is (Log p)) e = none (ap isRead e)
-    by (Is Convert) e = none (ap isRead e)

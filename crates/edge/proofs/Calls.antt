@@ -1,9 +1,10 @@
 -- The C library as a list of calls: one call, then all of them.
 use mathlib.Core.Path.{_≡_, refl, sym, ap, _∙_}
 use mathlib.Core.List.{List, [], _∷_}
-use mathlib.Core.Option.{Option, none, some}
+use mathlib.Core.Option.{none}
 use mathlib.Core.Bool.{Bool, true, false, true≢false, cond}
 use Prim.Native.Nat.{ℕ}
+use native.Mathlib.Omega.{arith}
 use lib.Dec.{leb}
 use lib.ListN.{length}
 use borrow.Author.Tests.{eq-eqb}
@@ -15,26 +16,26 @@ use Rattle.frame.specs.declared.Host.{Host}
 use Rattle.frame.specs.declared.ObjectId.{ObjectId}
 use Rattle.frame.specs.Frame.{hostMax}
 use Rattle.frame.specs.Reader.{fault}
-use Rattle.journal.specs.Replay.{lookup}
-use Rattle.journal.specs.Block.{Journal}
 use Rattle.wire.specs.declared.Answer.{Answer}
 use Rattle.wire.specs.declared.Answer.the-variants.{Done, More, Refused}
 use Rattle.wire.specs.declared.Refusal.the-variants as refusal
 use Rattle.wire.specs.declared.Parsed.{Parsed}
 use Rattle.wire.specs.declared.Parsed.the-variants.{Is, Malformed}
-use Rattle.wire.specs.declared.Request.the-variants.{Put, Delete, Commit, Abort, Read, Log, Convert}
+use Rattle.wire.specs.declared.Request.the-variants.{Read}
 use Rattle.wire.specs.Answer.{edgeNumber, refusedNumber, fieldNumber, spotOf}
-use Rattle.wire.specs.Message.{parse}
+use Rattle.wire.specs.Message.{parse, ofReadKind, idIn}
+use Rattle.board.specs.Table.{placeFor}
 use Rattle.board.specs.declared.Phase.{Phase}
 use Rattle.board.specs.declared.Phase.the-variants.{Unmounted, Idle, Busy}
 use Rattle.board.specs.declared.Record.{Record}
 use Rattle.board.specs.Record.{allowed, Stretch, Out}
 use Rattle.board.specs.Step.{stepOn}
-use Rattle.board.specs.Mount.{mountOn, formatOn, replayOf}
-use Rattle.board.specs.Queue.{held, requestOn, Asking, asking}
+use Rattle.board.specs.Mount.{mountOn, formatOn}
+use Rattle.board.specs.Queue.{requestOn, Asking, asking, readAt, readFound}
 use Rattle.board.specs.Exec.{Call, request, step, mount, format, exec}
 use Rattle.board.specs.Promise.{Shown, shown, trace, PromiseDetermines}
 use Rattle.board.proofs.Outcomes as outcome
+use Rattle.board.proofs.Reading.{no-read}
 use Rattle.board.proofs.Refusals.{refusals-untouched, at-most-one-step}
 use Rattle.board.proofs.Telling.{silent}
 use Rattle.board.proofs.FollowingPlans.{kept}
@@ -42,8 +43,9 @@ use Rattle.board.proofs.Determining.{promise-determines}
 use Rattle.lent.specs.Layout.{recordSize, recordIn, recordBytes}
 use Rattle.lent.proofs.Inverse.{Sized, record-back, length-bytes-of}
 use Rattle.lent.proofs.Own.{own-sized}
+use Rattle.queue.specs.Calls.{noId, readAs}
 use Rattle.pack.specs.Code.{changes}
-use Rattle.edge.specs.Edge.{Edge, edge, written, edgeRequest, edgeStep, edgeMount, edgeFormat, isRead, asRead, edgeRead}
+use Rattle.edge.specs.Edge.{Edge, edge, written, edgeRequest, edgeStep, edgeMount, edgeFormat, edgeRead}
 use Rattle.edge.specs.Edge.{place, EdgeNextThenMade}
 use Rattle.edge.specs.Edge.{Broken, broken, edgeFault}
 use Rattle.edge.specs.Calls.{fieldAt, answerAt, Ask, plain, reads, drives, callOf}
@@ -112,7 +114,7 @@ fault-is N img = refl
 -- ---- where a value stands
 
 -- it does not depend on the reply
-module _ (N : ℕ) (img : List ℕ) (r : Record) (h : Host) (m : List ℕ) (i : ObjectId) (z : parse m ≡ Is (Read i)) (p q : List ℕ) where
+module _ (N : ℕ) (img : List ℕ) (r : Record) (h : Host) (m : List ℕ) (k : ofReadKind m ≡ true) (p q : List ℕ) where
   abbrev c : Asking
   c = asking N img r h m p
 
@@ -125,25 +127,28 @@ module _ (N : ℕ) (img : List ℕ) (r : Record) (h : Host) (m : List ℕ) (i : 
   both : {x y : Out} → requestOn c ≡ x → requestOn d ≡ y → x .stretch ≡ y .stretch → Same
   both e f s = ap (λ (o : Out). o .stretch) e ∙ s ∙ sym (ap (λ (o : Out). o .stretch) f)
 
+  placed : (i : ObjectId) → outcome.ReadCase c i → readAt c i .stretch ≡ readAt d i .stretch
+  placed i (outcome.misshapen t e) = ap (λ (o : Out). o .stretch) e ∙ sym (ap (λ (o : Out). o .stretch) (outcome.read-misshapen d i t))
+  placed i (outcome.absent t z e) =
+      ap (λ (o : Out). o .stretch) e ∙ sym (ap (λ (o : Out). o .stretch) (outcome.read-shaped d i t ∙ outcome.read-absent d i (placeFor d i) z))
+  placed i (outcome.lost t z v e) =
+      ap (λ (o : Out). o .stretch) e
+      ∙ sym (ap (λ (o : Out). o .stretch) (outcome.read-shaped d i t ∙ outcome.read-there d i (placeFor d i) z ∙ ap (readFound d) v))
+  placed i (outcome.found x t z v e) =
+      ap (λ (o : Out). o .stretch) e
+      ∙ sym (ap (λ (o : Out). o .stretch) (outcome.read-shaped d i t ∙ outcome.read-there d i (placeFor d i) z ∙ ap (readFound d) v))
+
   same-asked : allowed N (length img) ≡ true → leb (h .0) hostMax ≡ true → Same
   same-asked a e = by (r .phase) refl
     where
-      of : (x : Journal) → r .phase ≡ Idle → held N img r ≡ some x → (o : Option (List ℕ)) → lookup i (replayOf x .objects) ≡ o → Same
-      of x k y none w =
-          both (outcome.request-served c a e x (Read i) k y z ∙ outcome.read-none c x i w)
-          (outcome.request-served d a e x (Read i) k y z ∙ outcome.read-none d x i w) refl
-      of x k y (some v) w =
-          both (outcome.request-served c a e x (Read i) k y z ∙ outcome.read-some c x i v w)
-          (outcome.request-served d a e x (Read i) k y z ∙ outcome.read-some d x i v w) refl
-
-      in-idle : r .phase ≡ Idle → (o : Option Journal) → held N img r ≡ o → Same
-      in-idle k none y = both (outcome.request-stale c a e k y) (outcome.request-stale d a e k y) refl
-      in-idle k (some x) y = of x k y (lookup i (replayOf x .objects)) refl
+      of : r .phase ≡ Idle → (x : Parsed) → parse m ≡ x → Same
+      of i Malformed z = both (outcome.read-malformed c a e k i z) (outcome.read-malformed d a e k i z) refl
+      of i (Is s) z = both (outcome.read-placed c a e k i s z) (outcome.read-placed d a e k i s z) (placed (idIn m) (outcome.read-case c (idIn m)))
 
       by : (x : Phase) → r .phase ≡ x → Same
-      by Unmounted k = both (outcome.request-in c a e k) (outcome.request-in d a e k) refl
-      by Idle k = in-idle k (held N img r) refl
-      by (Busy g) k = both (outcome.request-in c a e k) (outcome.request-in d a e k) refl
+      by Unmounted i = both (outcome.request-in c a e i) (outcome.request-in d a e i) refl
+      by Idle i = of i (parse m) refl
+      by (Busy g) i = both (outcome.request-in c a e i) (outcome.request-in d a e i) refl
 
   same-place : Same
   same-place =
@@ -152,33 +157,20 @@ module _ (N : ℕ) (img : List ℕ) (r : Record) (h : Host) (m : List ℕ) (i : 
       (λ e. both (outcome.request-host c a e) (outcome.request-host d a e) refl))
       (λ a. both (outcome.request-length c a) (outcome.request-length d a) refl)
 
--- a message that is no read has none
+-- a message that is of no read's kind has none
 module _ (N : ℕ) (img : List ℕ) (r : Record) (s : Sized r) (h : Host) (m reply : List ℕ) where
-  abbrev readAt : Stretch
-  readAt = requestOn (asking N img r h (asRead m) []) .stretch
+  abbrev readBy : Bool → Stretch
+  readBy b = requestOn (asking N img r h (cond b m noId) []) .stretch
 
-  no-place : isRead (parse m) ≡ false → readAt ≡ requestOn (asking N img r h m reply) .stretch
+  no-id : (i : ObjectId) → parse noId ≡ Is (Read i) → ⊥
   unfolding parse
-  no-place f =
-      ap (λ (b : Bool). requestOn (asking N img r h (cond b m []) []) .stretch) f ∙ serves (asking N img r h [] []) s .place refl
-      ∙ sym (serves (asking N img r h m reply) s .place f)
+  no-id i e = let z : _≡_ {A = ℕ} 0 1 = cc in absurd (omega arith)
 
-  read-place : readAt ≡ requestOn (asking N img r h m reply) .stretch
-  read-place = by (parse m) refl
-    where
-      none-of : (p : Parsed) → parse m ≡ p → isRead p ≡ false → readAt ≡ requestOn (asking N img r h m reply) .stretch
-      none-of p e f = no-place (ap isRead e ∙ f)
-
-      by : (p : Parsed) → parse m ≡ p → readAt ≡ requestOn (asking N img r h m reply) .stretch
-      by Malformed e = none-of Malformed e refl
-      by (Is (Put i)) e = none-of (Is (Put i)) e refl
-      by (Is (Delete i)) e = none-of (Is (Delete i)) e refl
-      by (Is Commit) e = none-of (Is Commit) e refl
-      by (Is Abort) e = none-of (Is Abort) e refl
-      by (Is (Read i)) e =
-          ap (λ (b : Bool). requestOn (asking N img r h (cond b m []) []) .stretch) (ap isRead e) ∙ same-place N img r h m i e [] reply
-      by (Is (Log x)) e = none-of (Is (Log x)) e refl
-      by (Is Convert) e = none-of (Is Convert) e refl
+  pub read-place : requestOn (asking N img r h (readAs m) []) .stretch ≡ requestOn (asking N img r h m reply) .stretch
+  read-place =
+      on-test (ofReadKind m)
+      (λ k. ap readBy k ∙ same-place N img r h m k [] reply)
+      (λ k. ap readBy k ∙ serves (asking N img r h noId []) s .place no-id ∙ sym (serves (asking N img r h m reply) s .place (no-read m k)))
 
 -- ---- one call
 
@@ -219,7 +211,7 @@ module _ (N : ℕ) (img b : List ℕ) (l : length b ≡ recordSize) where
   unfolding edgeRequest
   is-request h m reply = rw (eq-eqb (length b) recordSize l)
 
-  is-place : (h : Host) (m reply : List ℕ) → plainStretch N img b (request h m reply) ≡ requestOn (asking N img r h (asRead m) []) .stretch
+  is-place : (h : Host) (m reply : List ℕ) → plainStretch N img b (request h m reply) ≡ requestOn (asking N img r h (readAs m) []) .stretch
   unfolding edgeRead
   is-place h m reply = rw (eq-eqb (length b) recordSize l)
 
@@ -286,20 +278,20 @@ module _ (N : ℕ) (img b : List ℕ) (l : length b ≡ recordSize) where
 
   -- a read changes nothing
   is-read : (h : ℕ) (m : List ℕ) (at size : ℕ)
-      → let o : Out = requestOn (asking N img r (record { 0 = h }) (asRead m) []) in
+      → let o : Out = requestOn (asking N img r (record { 0 = h }) (readAs m) []) in
       edgeRead N img b h m at size ≡ place (edgeNumber (o .answer)) (o .stretch .at) (o .stretch .size)
   unfolding edgeRead
   is-read h m at size = rw (eq-eqb (length b) recordSize l)
 
   meets-read : (h : ℕ) (m : List ℕ) (at size : ℕ)
-      → Meets N img b (reads h m at size) (requestOn (asking N img r (record { 0 = h }) (asRead m) []))
+      → Meets N img b (reads h m at size) (requestOn (asking N img r (record { 0 = h }) (readAs m) []))
   meets-read h m at size =
       let g : Host = record { 0 = h } in
-      let s = serves (asking N img r g (asRead m) []) (own-sized b) in
+      let s = serves (asking N img r g (readAs m) []) (own-sized b) in
       let k = s .read (reads-only m) in
-      let o = requestOn (asking N img r g (asRead m) []) in
+      let o = requestOn (asking N img r g (readAs m) []) in
       let e = is-read h m at size in
-      let i : o .image ≡ img = at-most-one-step N img r (request g (asRead m) []) in
+      let i : o .image ≡ img = at-most-one-step N img r (request g (readAs m) []) in
       record {
         after = b;
         is = λ j. edge (e j .answer) (sym i j) b (sym (k .1) j);

@@ -17,7 +17,7 @@ use Rattle.board.specs.Drive.{madeOn}
 use Rattle.job.specs.declared.records.Numbers.{Numbers}
 use Rattle.job.specs.declared.records.Stepped.{Stepped}
 use Rattle.job.specs.declared.moves.Moved.{Moved}
-use Rattle.job.specs.Code.{assemble, LeadsTo, reachedIf, answeredIf, answered, Steps}
+use Rattle.job.specs.Code.{assemble, LeadsTo, Appends, reachedIf, answeredIf, answered, Steps}
 use Rattle.lent.specs.Layout.{recordSize, recordIn, recordBytes, recordInto}
 use Rattle.pack.specs.Code.{loadedIn, leftIn, Holds, changes}
 use Rattle.midframe.specs.Code.{Made}
@@ -27,11 +27,12 @@ use Rattle.edge.proofs.Buffers.{filled}
 use Rattle.edge.proofs.Kept.{Keeps}
 
 -- a frame loaded from the buffer's own arrays
-pub frame-loaded : (N : ℕ) (img : List ℕ) (n : Numbers) (b after places unit laid : List ℕ) (s : Stepped) → places ≡ recordIn b .places
-    → unit ≡ recordIn b .unit → ((f : List ℕ) → LeadsTo places laid f s (enterCopy N img (assemble n places unit f)))
-    → Holds (loadedIn s laid b) b after → Holds (enterCopy N img (over n b)) b after
-frame-loaded N img n b after places unit laid s ep eu h w =
-    let g = rw (ep, eu) at (h (recordIn b .frame)) in subst (λ (r : Record). Holds r b after) (g .gives) w
+pub frame-loaded : (N : ℕ) (img : List ℕ) (n : Numbers) (kind by : ℕ) (b after places unit placed laid : List ℕ) (s : Stepped)
+    → Appends kind by (recordIn b .frame) → places ≡ recordIn b .places → unit ≡ recordIn b .unit
+    → ((f : List ℕ) → Appends kind by f → LeadsTo placed laid f s (enterCopy N img (assemble n places unit f)))
+    → Holds (loadedIn s placed laid b) b after → Holds (enterCopy N img (over n b)) b after
+frame-loaded N img n kind by b after places unit placed laid s ends ep eu h w =
+    let g = rw (ep, eu) at (h (recordIn b .frame) ends) in subst (λ (r : Record). Holds r b after) (g .gives) w
 
 -- where a step led, by whether a frame is due
 module _ (N : ℕ) (img : List ℕ) (p : Phase) (m : Moved) (b : List ℕ) (n : ℕ) (after : List ℕ) where

@@ -139,8 +139,8 @@ none-made N m img r e = by m (answerOf r) refl e
         left img r _ _ g (first-refused N k img r (sym (ap stepsOf g) ∙ f))
 
 -- what the code came to: x by the parts, after the buffer
-module _ (N : ℕ) (img img′ b unit after : List ℕ) (n m : ℕ) (x : Ran) (l : length b ≡ recordSize)
-    (q : Runs x (recordIn b .places) unit (recordIn b .frame) img′ (runOn N m img (recordIn b))) (e : n ≡ edgeNumber (x .stepped .answer)) where
+module _ (N : ℕ) (img img′ b places unit after : List ℕ) (n m : ℕ) (x : Ran) (l : length b ≡ recordSize)
+    (q : Runs x places unit (recordIn b .frame) img′ (runOn N m img (recordIn b))) (e : n ≡ edgeNumber (x .stepped .answer)) where
   abbrev d : Drove
   d = runOn N m img (recordIn b)
 
@@ -154,7 +154,7 @@ module _ (N : ℕ) (img img′ b unit after : List ℕ) (n m : ℕ) (x : Ran) (l
         ap recordIn k ∙ sym (none-made N m img (recordIn b) y .1),
       )
 
-  pub ran-some : (x .steps ≡ 0 → ⊥) → Holds (loadedIn (x .stepped) unit b) b after
+  pub ran-some : (x .steps ≡ 0 → ⊥) → Holds (loadedIn (x .stepped) places unit b) b after
       → (run n (x .steps) img′ after ≡ ran b d) × (recordIn after ≡ d .out .board)
   ran-some z h =
       let y : eqb (d .steps) 0 ≡ false = ne-eqb _ _ (λ f. z (q .steps ∙ f)) in (

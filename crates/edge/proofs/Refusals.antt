@@ -20,8 +20,9 @@ use Rattle.board.specs.Queue.{asking, requestOn}
 use Rattle.board.specs.Exec.{request, step}
 use Rattle.board.proofs.Refusals.{refusals-untouched}
 use Rattle.lent.specs.Layout.{recordSize, recordIn}
+use Rattle.queue.specs.Calls.{readAs}
 use Rattle.edge.proofs.Kept.{made-cases}
-use Rattle.edge.specs.Edge.{holdsRecord, guarded, written, edgeRequest, edgeStep, edgeMade, asRead, edgeRead}
+use Rattle.edge.specs.Edge.{holdsRecord, guarded, written, edgeRequest, edgeStep, edgeMade, edgeRead}
 use Rattle.edge.specs.Edge.{Refuses, Stays, RefusedStays, RefusedReadEmpty}
 
 -- an answer that refuses is a refusal's
@@ -68,5 +69,5 @@ unfolding RefusedReadEmpty edgeRead
 refused-read-empty N img b h m at size l =
     rw (eq-eqb (length b) recordSize l)
     (λ f.
-    let x = is-refused (requestOn (asking N img (recordIn b) (record { 0 = h }) (asRead m) []) .answer) f in
-    rw (refusals-untouched N img (recordIn b) (request (record { 0 = h }) (asRead m) []) (x .0) (x .1)))
+    let x = is-refused (requestOn (asking N img (recordIn b) (record { 0 = h }) (readAs m) []) .answer) f in
+    rw (refusals-untouched N img (recordIn b) (request (record { 0 = h }) (readAs m) []) (x .0) (x .1)))

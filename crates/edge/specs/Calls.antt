@@ -2,7 +2,7 @@
 -- caller in C.
 use mathlib.Core.Path.{_≡_}
 use mathlib.Core.List.{List, [], _∷_}
-use mathlib.Core.Bool.{Bool, true, false, cond, _&&_}
+use mathlib.Core.Bool.{true, false, cond, _&&_}
 use Prim.Native.Nat.{ℕ, zero, suc, _+_, _-_, _<_}
 use lib.Dec.{eqb}
 use lib.ListN.{length, getD}
@@ -25,7 +25,8 @@ use Rattle.board.specs.Book.{Book, formatting, firstBook, enterCall}
 use Rattle.board.specs.Claim.{IdleAgrees, Says, track, begunBy, ByteCall, Begins, Event, call, cutErase, Track, tracked}
 use Rattle.board.specs.Promise.{Promise, Shown, shown, trace, ByteEvents}
 use Rattle.lent.specs.Layout.{recordSize, recordIn}
-use Rattle.edge.specs.Edge.{Edge, edge, edgeRequest, edgeStep, edgeMade, edgeMount, edgeFormat, Place, asRead, edgeRead, edgeNext, flashedBy}
+use Rattle.queue.specs.Calls.{readAs}
+use Rattle.edge.specs.Edge.{Edge, edge, edgeRequest, edgeStep, edgeMade, edgeMount, edgeFormat, Place, edgeRead, edgeNext, flashedBy}
 use Rattle.edge.specs.Edge.{Run, run, edgeRun, Broken, edgeFault}
 
 -- ---- one call
@@ -66,7 +67,7 @@ pub data Ask : Type 0 where
 -- the machine's call that it stands for
 abbrev pub callOf : Ask → Call
 callOf (plain c) = c
-callOf (reads h m at size) = request (record { 0 = h }) (asRead m) []
+callOf (reads h m at size) = request (record { 0 = h }) (readAs m) []
 callOf (drives at size byte) = step
 
 -- its answer's number and the buffers after it

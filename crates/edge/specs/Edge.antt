@@ -1,17 +1,13 @@
 -- What each exported function does to the buffers that it is lent: the board's definitions, with the record as bytes.
 use mathlib.Core.Path.{_≡_}
 use mathlib.Core.List.{List, []}
-use mathlib.Core.Bool.{Bool, true, false, cond}
+use mathlib.Core.Bool.{Bool, cond}
 use Prim.Native.Nat.{ℕ, _<_}
 use lib.Dec.{eqb}
 use lib.ListN.{length}
-use Rattle.wire.specs.declared.Request.the-variants.{Put, Delete, Commit, Abort, Read, Log, Convert}
-use Rattle.wire.specs.declared.Parsed.{Parsed}
-use Rattle.wire.specs.declared.Parsed.the-variants.{Is, Malformed}
 use Rattle.wire.specs.declared.Answer.{Answer}
 use Rattle.wire.specs.declared.Spot.{Spot}
 use Rattle.wire.specs.Answer.{refusalNumber, edgeNumber, refusedNumber, spotOf}
-use Rattle.wire.specs.Message.{parse}
 use Rattle.board.specs.declared.Next.{Next}
 use Rattle.board.specs.declared.Next.the-variants as next
 use Rattle.board.specs.declared.Record.{Record}
@@ -21,6 +17,7 @@ use Rattle.board.specs.Drive.{Drove, nextOn, flashed, madeOn, runOn}
 use Rattle.board.specs.Mount.{mountOn, formatOn}
 use Rattle.board.specs.Queue.{asking, requestOn}
 use Rattle.lent.specs.Layout.{recordSize, recordIn, recordBytes}
+use Rattle.queue.specs.Calls.{readAs}
 use Rattle.pack.specs.Code.{changes}
 
 -- an answer's number, and the buffers after the call
@@ -83,25 +80,10 @@ pub record Place : Type 0 where
 abbrev pub place : ℕ → ℕ → ℕ → Place
 place n at size = record { answer = n; at = at; size = size }
 
--- a well-formed read
-abbrev pub isRead : Parsed → Bool
-isRead Malformed = false
-isRead (Is (Put i)) = false
-isRead (Is (Delete i)) = false
-isRead (Is Commit) = false
-isRead (Is Abort) = false
-isRead (Is (Read i)) = true
-isRead (Is (Log p)) = false
-isRead (Is Convert) = false
-
--- a message that is no well-formed read counts as the empty one, which is malformed
-abbrev pub asRead : List ℕ → List ℕ
-asRead m = cond (isRead (parse m)) m []
-
--- with a record buffer of any other size the numbers stay as they were
+-- a message of another kind is malformed (`readAs`); with a record buffer of any other size the numbers stay as they were
 unfoldable pub edgeRead : ℕ → List ℕ → List ℕ → ℕ → List ℕ → ℕ → ℕ → Place
 edgeRead N img b h m at size =
-    let o : Out = requestOn (asking N img (recordIn b) (record { 0 = h }) (asRead m) []) in
+    let o : Out = requestOn (asking N img (recordIn b) (record { 0 = h }) (readAs m) []) in
     cond (holdsRecord b) (place (edgeNumber (o .answer)) (o .stretch .at) (o .stretch .size)) (place 254 at size)
 
 -- ---- the next flash step, told in numbers

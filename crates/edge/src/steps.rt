@@ -1,5 +1,4 @@
 // Steps on the record's bytes: its numbers are read and written back, its arrays only where a frame is loaded.
-ghost use mathlib.Core.Path.{_≡_};
 ghost use Rattle.board.specs.Step.{enterCopy};
 ghost use Rattle.pack.specs.Code.{Holds};
 ghost use Rattle.edge.specs.Code.{over, Went, DoesStep};
@@ -10,14 +9,21 @@ use job::records::Numbers;
 use lent::RECORD_SIZE;
 use wire::Answer;
 
+// Where a frame has its kind and its host.
+const KIND_AT: u8 = frame::KIND_AT as u8;
+
+const BODY_AT: u8 = frame::BODY_AT as u8;
+
 // The next frame to copy is loaded, or the block is sealed.
 fn load(image: &[u8], blocks: u8, n: Numbers, board: &mut [u8])
     ensures { λ r. ⌜ Holds (enterCopy blocks (now (image .entry)) (over n (now (board .entry)))) (now (board .entry)) (now (board .exit)) ⌝ }
 {
-    let places = unpack::places(board);
+    let kind = unpack::append_byte(board, KIND_AT);
+    let by = unpack::append_byte(board, BODY_AT);
+    let mut places = unpack::places(board);
     let mut unit = unpack::unit(board);
-    let s = job::enter_copy(image, blocks, n, &places, &mut unit);
-    pack::write_loaded(s, &unit, board);
+    let s = job::enter_copy(image, blocks, n, kind, by, &mut places, &mut unit);
+    pack::write_loaded(s, &places, &unit, board);
 }
 
 // Inner part of step_numbers and grommetide_made. The record goes on where the step was made, by the phase before it; and the answer.

@@ -19,9 +19,21 @@ pub fn with_host(numbers: [u16; 4], host: Host, at: u16) -> [u16; 4]
     ensures { λ r. ⌜ r ≡ set numbers (host .0) at ⌝ }
 {
     let mut m = numbers;
-    let i = host.0 as usize;
-    if i < 4 {
-        m[i] = at;
+    let i = host.0;
+    if i == 0 {
+        m[0] = at;
+        return m;
+    }
+    if i == 1 {
+        m[1] = at;
+        return m;
+    }
+    if i == 2 {
+        m[2] = at;
+        return m;
+    }
+    if i == 3 {
+        m[3] = at;
     }
     m
 }

@@ -9,7 +9,7 @@ ghost use Rattle.lent.specs.Layout.{recordSize, recordIn};
 ghost use Rattle.edge.specs.Edge.{Edge, edgeMount, edgeFormat, edgeRequest, ReadsBack};
 ghost use Rattle.edge.specs.Edge.{place, edgeRead, broken, edgeFault};
 use edge::WRONG_RECORD;
-use edge::as_read;
+use frame::BUFFER_LEN;
 use frame::Host;
 use job::records;
 use lent::RECORD_SIZE;
@@ -95,13 +95,16 @@ pub extern "C" fn grommetide_request(
     }
     let phase = unpack::phase_of(board);
     let rest = unpack::rest_of(board);
-    let mut places = records::no_places();
-    let mut frame = records::no_frame();
+    let mut recorded = [0u16; 256];
+    unpack::read_places(board, &mut recorded);
+    let mut places = [0u16; 256];
+    let mut frame = [0u8; BUFFER_LEN];
     let s = queue::request_core(
         image,
         blocks,
         phase,
         rest,
+        &recorded,
         Host(host),
         message,
         reply,
@@ -129,7 +132,8 @@ pub extern "C" fn grommetide_read(
     }
     let phase = unpack::phase_of(board);
     let rest = unpack::rest_of(board);
-    let found = queue::find(image, blocks, phase, rest, Host(host), as_read(message));
+    let place = unpack::place_of(board, wire::id_in(message));
+    let found = queue::find(image, blocks, phase, rest, place, Host(host), message);
     *at = found.at;
     *len = found.size;
     let answer = found.answer;

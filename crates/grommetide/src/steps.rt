@@ -56,17 +56,18 @@ pub extern "C" fn grommetide_run(
     if board.len() != RECORD_SIZE {
         return WRONG_RECORD;
     }
-    let places = unpack::places(board);
+    let mut places = [0u16; 256];
+    unpack::read_places(board, &mut places);
     let mut unit = unpack::unit(board);
     let frame = unpack::append(board);
     let n = unpack::numbers(board);
-    let ran = drive::run_core(image, blocks, n, &places, &mut unit, &frame, most);
+    let ran = drive::run_core(image, blocks, n, &mut places, &mut unit, &frame, most);
     *steps = ran.steps;
     let s = ran.stepped;
     let answer = s.answer;
     if ran.steps == 0 {
         return wire::number(answer);
     }
-    pack::write_loaded(s, &unit, board);
+    pack::write_loaded(s, &places, &unit, board);
     wire::number(answer)
 }

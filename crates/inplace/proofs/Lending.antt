@@ -169,7 +169,7 @@ module _ {M : Type 1} {𝓤 : URA M} {H : Heap 𝓤} {A : Atoms 𝓤} {K : Type 
 -- ---- an outcome is back in the local i: its record is stored over the one that is lent, and its answer is the result
 
 module _ {M : Type 1} {𝓤 : URA M} {H : Heap 𝓤} {A : Atoms 𝓤} {K : Type 0} {W : Given 𝓤 H A} {Γ : List (Item 𝓤)} {E : Wp.Env 𝓤 H} where
-  spot : K → {i : ℕ} {sp sp′ : Spot 𝓤 H} {st : List Part} → spotOf 𝓤 H E i ≡ sp → Walks K W Γ E sp st sp′ → Finds K W Γ E (place i st) sp′
+  pub spot : K → {i : ℕ} {sp sp′ : Spot 𝓤 H} {st : List Part} → spotOf 𝓤 H E i ≡ sp → Walks K W Γ E sp st sp′ → Finds K W Γ E (place i st) sp′
   spot t {sp′ = sp′} {st = st} e w = from t (subst (λ (s : Spot 𝓤 H). Walks K W Γ E s st sp′) (sym e) w)
 
   -- entry n of the context is the cell of the local that is read

@@ -14,7 +14,19 @@ pub fn step_in_place(image: &mut [u8], blocks: u8, board: &mut Record) -> Answer
     ensures { λ r. ⌜ (let o : Out = stepOn blocks (now (image .entry)) (now (board .entry)) in
         (now (image .exit) ≡ o .image) × (r ≡ o .answer) × (now (board .exit) ≡ o .board)) ⌝ }
 {
-    let out = job::step(image, blocks, *board);
+    let out = job::step(
+        image,
+        blocks,
+        Record {
+            phase: board.phase,
+            rest: board.rest,
+            places: board.places,
+            job: board.job,
+            cursor: board.cursor,
+            unit: board.unit,
+            frame: board.frame,
+        },
+    );
     *board = out.board;
     out.answer
 }
@@ -31,7 +43,22 @@ pub fn request_in_place(
     ensures { λ r. ⌜ (let o : Out = requestOn (asking blocks (now (image .entry)) (now (board .entry)) host (now (message .entry)) (now (reply .entry))) in
         (r ≡ o .answer) × (now (board .exit) ≡ o .board) × (now (reply .exit) ≡ o .reply)) ⌝ }
 {
-    let out = queue::request(image, blocks, *board, host, message, reply);
+    let out = queue::request(
+        image,
+        blocks,
+        Record {
+            phase: board.phase,
+            rest: board.rest,
+            places: board.places,
+            job: board.job,
+            cursor: board.cursor,
+            unit: board.unit,
+            frame: board.frame,
+        },
+        host,
+        message,
+        reply,
+    );
     *board = out.board;
     out.answer
 }

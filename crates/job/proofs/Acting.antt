@@ -14,9 +14,7 @@ use Rattle.frame.specs.declared.Edition.{Edition}
 use Rattle.frame.specs.declared.Edition.the-variants as edition
 use Rattle.journal.specs.Block.{openWrite, sealWrite, stateAt, inTransfer, validData}
 use Rattle.board.specs.declared.Rest.{Rest}
-use Rattle.board.specs.Record.{idle}
-use Rattle.board.specs.Step.{sameShape}
-use Rattle.job.specs.Code.{takes, did}
+use Rattle.job.specs.Code.{fits, takes, did}
 
 -- ---- a step's place
 
@@ -29,7 +27,7 @@ in-parts N s x e =
     )
 
 -- the record's image, and a step's place in it
-pub same-parts : (N n : ℕ) (z : Rest) → sameShape N n (idle z) ≡ true → (n ≡ suc (z .last)) × (N ≡ z .blocks)
+pub same-parts : (N n : ℕ) (z : Rest) → fits N n z ≡ true → (n ≡ suc (z .last)) × (N ≡ z .blocks)
 same-parts N n z e = (
   eqb-true n (suc (z .last)) (and-left (eqb n (suc (z .last))) (eqb N (z .blocks)) e),
   eqb-true N (z .blocks) (and-right (eqb n (suc (z .last))) (eqb N (z .blocks)) e),
@@ -37,8 +35,8 @@ same-parts N n z e = (
 
 pub takes-parts : (N n : ℕ) (z : Rest) (x : Step) → takes N n z x ≡ true → (n ≡ suc (z .last)) × (within N (sizeIn N n) x ≡ true)
 takes-parts N n z x e = (
-  same-parts N n z (and-left (sameShape N n (idle z)) (within N (sizeIn N n) x) e) .0,
-  and-right (sameShape N n (idle z)) (within N (sizeIn N n) x) e,
+  same-parts N n z (and-left (fits N n z) (within N (sizeIn N n) x) e) .0,
+  and-right (fits N n z) (within N (sizeIn N n) x) e,
 )
 
 -- an offset up to a block's end is at most the image's length

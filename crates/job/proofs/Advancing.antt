@@ -247,9 +247,9 @@ module _ (N : ℕ) (p u f img : List ℕ) (o : Out) (m : Moved) (x : Steps (answ
   none-due : m .loads ≡ false → Steps (m .stepped .answer) (m .stepped .ended) (leaves (m .stepped) p u f) img o
   none-due e = subst (λ (b : Bool). Steps (answeredIf b (m .stepped)) (m .stepped .ended) (reachedIf N b img (m .stepped) p u f) img o) e x
 
-  one-due : m .loads ≡ true → (u′ : List ℕ) (s : Stepped) → LeadsTo p u′ f s (enterCopy N img (assemble (m .stepped .next) p u f))
-      → Steps (s .answer) (s .ended) (leaves s p u′ f) img o
-  one-due e u′ s l =
+  one-due : m .loads ≡ true → (p′ u′ : List ℕ) (s : Stepped) → LeadsTo p′ u′ f s (enterCopy N img (assemble (m .stepped .next) p u f))
+      → Steps (s .answer) (s .ended) (leaves s p′ u′ f) img o
+  one-due e p′ u′ s l =
       let y = subst (λ (b : Bool). Steps (answeredIf b (m .stepped)) (m .stepped .ended) (reachedIf N b img (m .stepped) p u f) img o) e x in
       record {
         image = y .image;
@@ -258,7 +258,7 @@ module _ (N : ℕ) (p u f img : List ℕ) (o : Out) (m : Moved) (x : Steps (answ
         goes = l .goes;
       }
 
-  pub load-steps : (u′ : List ℕ) (s : Stepped) → Loads N img p u m s u′ → Steps (s .answer) (s .ended) (leaves s p u′ f) img o
-  load-steps u′ s l =
-      on-test (m .loads) (λ t. one-due t u′ s (l .due t f))
-      (λ t. rw (l .none t .0, l .none t .1) (none-due t))
+  pub load-steps : (p′ u′ : List ℕ) (s : Stepped) → Loads N img p u f m s p′ u′ → Steps (s .answer) (s .ended) (leaves s p′ u′ f) img o
+  load-steps p′ u′ s l =
+      on-test (m .loads) (λ t. one-due t p′ u′ s (l .due t))
+      (λ t. rw (l .none t .0, l .none t .1, l .none t .2) (none-due t))

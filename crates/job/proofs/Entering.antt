@@ -31,7 +31,7 @@ module _ (p u f : List ℕ) where
   pub going-leaves : (st : Stage) (c : Cursor) (n : Numbers) → LeadsTo p u f (going st c n) (inStage st c (assemble n p u f))
   going-leaves st c n = record { answers = refl; gives = refl; goes = λ e. refl }
 
-  pub over-leaves : (z : Rest) → LeadsTo p u f (over z) (idle z)
+  pub over-leaves : (z : Rest) → LeadsTo p u f (over z) (idle p z)
   over-leaves z = record { answers = refl; gives = refl; goes = λ e. absurd (done-ends e) }
 
   pub leaves-if : (b : Bool) {s t : Stepped} {r q : Record} → LeadsTo p u f s r → LeadsTo p u f t q → LeadsTo p u f (cond b s t) (cond b r q)

@@ -6,7 +6,8 @@ use Prim.Native.Nat.{ℕ, suc, _+_}
 use lib.Dec.{eqb, ltb}
 use lib.ListN.{getD}
 use Rattle.flash.specs.Flash.{Step, program, erase, apply, sizeIn, sizeOf, within, writeStep}
-use Rattle.frame.specs.Frame.{editionBy}
+use Rattle.frame.specs.declared.Host.{Host}
+use Rattle.frame.specs.Frame.{editionBy, kindAt, bodyAt}
 use Rattle.journal.specs.Block.{openWrite, sealWrite, closeByte}
 use Rattle.wire.specs.declared.Answer.{Answer}
 use Rattle.wire.specs.declared.Answer.the-variants.{Done, More}
@@ -79,9 +80,9 @@ over z = atRest Done Idle z
 abbrev pub staying : Answer → Numbers → Stepped
 staying a n = record { answer = a; next = n; ended = false }
 
--- a job that ended leaves no places and no frames
+-- a job that ended leaves no frames; its places stay (K8)
 abbrev pub leavesIf : Bool → Numbers → List ℕ → List ℕ → List ℕ → Record
-leavesIf true n places unit frame = assemble n noPlaces noFrame noFrame
+leavesIf true n places unit frame = assemble n places noFrame noFrame
 leavesIf false n places unit frame = assemble n places unit frame
 
 abbrev pub leaves : Stepped → List ℕ → List ℕ → List ℕ → Record
@@ -148,9 +149,13 @@ actionBy Append n b = program (n .rest .block) (n .rest .end + n .cursor .index)
 actionBy Close n b =
     program (n .rest .block) (getD (n .job .close) (n .cursor .index) 0) (closeByte (eqb (suc (n .cursor .index)) (n .job .closes)))
 
--- an image of N blocks and n bytes is the record's, by where that stands, and a step's place lies in it
+-- an image of N blocks and n bytes is the record's, by where that stands
+abbrev pub fits : ℕ → ℕ → Rest → Bool
+fits N n z = sameShape N n (idle noPlaces z)
+
+-- and a step's place lies in it
 abbrev pub takes : ℕ → ℕ → Rest → Step → Bool
-takes N n z x = sameShape N n (idle z) && within N (sizeIn N n) x
+takes N n z x = fits N n z && within N (sizeIn N n) x
 
 -- a step done where its place lies in the image of N blocks
 unfoldable pub did : ℕ → Step → List ℕ → List ℕ
@@ -202,6 +207,16 @@ HandsIn (Busy s) n b unit frame = HandsAt s n b unit frame
 abbrev pub Hands : Numbers → ℕ → List ℕ → List ℕ → Type 0
 Hands n b unit frame = HandsIn (n .phase) n b unit frame
 
+-- ---- whose commit the job ends with
+
+-- a frame of this kind and host byte is a host's commit: `board/Step: endsWith`
+abbrev pub endsBy : ℕ → ℕ → Host → Bool
+endsBy kind by h = eqb kind 3 && eqb by (h .0)
+
+-- the frame to append has these two bytes
+abbrev pub Appends : ℕ → ℕ → List ℕ → Type 0
+Appends kind by frame = (kind ≡ getD frame kindAt 0) × (by ≡ getD frame bodyAt 0)
+
 -- ---- a step that loads no frame yet
 
 abbrev pub still : Stepped → Moved
@@ -232,10 +247,10 @@ pub record Moves (N : ℕ) (img places unit frame : List ℕ) (m : Moved) (r : R
   pub gives : reached N m img places unit frame ≡ r
   pub goes : GoesOn (answered m) (m .stepped .ended)
 
--- the frame that is due is loaded, into the array that is lent; where none is due nothing is done
-pub record Loads (N : ℕ) (img places unit : List ℕ) (m : Moved) (s : Stepped) (unit′ : List ℕ) : Type 0 where
-  pub due : m .loads ≡ true → (f : List ℕ) → LeadsTo places unit′ f s (enterCopy N img (assemble (m .stepped .next) places unit f))
-  pub none : m .loads ≡ false → (s ≡ m .stepped) × (unit′ ≡ unit)
+-- the frame that is due is loaded, into the arrays that are lent; where none is due nothing is done
+pub record Loads (N : ℕ) (img places unit frame : List ℕ) (m : Moved) (s : Stepped) (places′ unit′ : List ℕ) : Type 0 where
+  pub due : m .loads ≡ true → LeadsTo places′ unit′ frame s (enterCopy N img (assemble (m .stepped .next) places unit frame))
+  pub none : m .loads ≡ false → (s ≡ m .stepped) × (places′ ≡ places) × (unit′ ≡ unit)
 
 -- an answer, a record and an image are what a step call gives back
 pub record Steps (a : Answer) (ended : Bool) (r : Record) (img : List ℕ) (o : Out) : Type 0 where

@@ -6,9 +6,7 @@ ghost use lib.ListN.{getD};
 ghost use Rattle.flash.specs.Flash.{program, erase, isCount, sizeOf, within, writeStep};
 ghost use Rattle.journal.specs.Block.{headerKind, openWrite, sealWrite, closeByte};
 ghost use Prim.Native.Nat.{suc, _%_};
-ghost use Rattle.board.specs.Record.{idle};
-ghost use Rattle.board.specs.Step.{sameShape};
-ghost use Rattle.job.specs.Code.{actionBy, flashStep, takes, did};
+ghost use Rattle.job.specs.Code.{actionBy, flashStep, fits, takes, did};
 use crate::header;
 use crate::records;
 use crate::records::Numbers;
@@ -193,7 +191,7 @@ pub fn act(image: &mut [u8], blocks: u8, a: Action) -> bool
 
 // An image of a length and so many blocks is the record's, by where that stands.
 pub fn same_shape(len: usize, blocks: u8, rest: Rest) -> bool
-    ensures { λ r. ⌜ r ≡ sameShape blocks len (idle rest) ⌝ }
+    ensures { λ r. ⌜ r ≡ fits blocks len rest ⌝ }
 {
     if len != rest.last as usize + 1 {
         return false;

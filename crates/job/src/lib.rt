@@ -2,6 +2,7 @@
 mod actions;
 mod header;
 mod moves;
+mod placing;
 pub mod records;
 mod steps;
 

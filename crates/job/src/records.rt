@@ -1,6 +1,6 @@
 // Board records: each kind is built in one place. A record's numbers go by themselves, its arrays apart.
 ghost use mathlib.Core.Path.{_≡_};
-ghost use Rattle.board.specs.Record.{noPlaces, noFrame, noJob, cursor, starting, resting, unmounted, idle};
+ghost use Rattle.board.specs.Record.{noPlaces, noFrame, noJob, cursor, starting, resting, unmounted};
 ghost use Rattle.board.specs.Record as boards;
 ghost use Rattle.board.specs.Step.{first};
 ghost use Rattle.job.specs.Code.{numbersOf, assemble, going, atRest, over, staying, leaves, outcome};
@@ -30,7 +30,7 @@ pub struct Numbers {
     pub cursor: Cursor,
 }
 
-// Where a call leaves a job. A job that ended leaves no places and no frames.
+// Where a call leaves a job. A job that ended leaves no frames.
 pub struct Stepped {
     pub answer: Answer,
     pub next: Numbers,
@@ -97,8 +97,8 @@ pub fn standing(blocks: u8, last: u16, block: u8, end: u16, edition: u8) -> Rest
 }
 
 // A record in no job.
-fn resting(phase: Phase, rest: Rest) -> Record
-    ensures { λ r. ⌜ r ≡ resting phase rest ⌝ }
+fn resting(phase: Phase, places: [u16; 256], rest: Rest) -> Record
+    ensures { λ r. ⌜ r ≡ resting phase places rest ⌝ }
 {
     let n = Numbers {
         phase: phase,
@@ -106,19 +106,13 @@ fn resting(phase: Phase, rest: Rest) -> Record
         job: no_job(),
         cursor: no_cursor(),
     };
-    assemble(n, no_places(), no_frame(), no_frame())
+    assemble(n, places, no_frame(), no_frame())
 }
 
 pub fn unmounted() -> Record
     ensures { λ r. ⌜ r ≡ unmounted ⌝ }
 {
-    resting(Phase::Unmounted, standing(0, 0, 0, 0, 0))
-}
-
-pub fn idle(rest: Rest) -> Record
-    ensures { λ r. ⌜ r ≡ idle rest ⌝ }
-{
-    resting(Phase::Idle, rest)
+    resting(Phase::Unmounted, no_places(), standing(0, 0, 0, 0, 0))
 }
 
 // The cursor of a job not yet begun: the first id to copy, and the first offset to look at for pending frames.
@@ -189,7 +183,7 @@ pub fn give_back(
     if s.ended {
         return Outcome {
             answer: answer,
-            board: assemble(next, no_places(), no_frame(), no_frame()),
+            board: assemble(next, places, no_frame(), no_frame()),
         };
     }
     Outcome {

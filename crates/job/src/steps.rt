@@ -12,11 +12,12 @@ ghost use Rattle.board.specs.declared.Phase.the-variants.{Busy};
 ghost use Rattle.board.specs.Record.{Out};
 ghost use Rattle.board.specs.Drive.{madeIn, madeOn};
 ghost use Rattle.board.specs.Step.{loaded, enterCopy, stepBusy, stepOn};
-ghost use Rattle.job.specs.Code.{assemble, LeadsTo, staying, still, inHand, HandsAt, Hands, leaves, reached, answered, Loads, Steps};
+ghost use Rattle.job.specs.Code.{assemble, LeadsTo, staying, still, inHand, HandsAt, Hands, leaves, reached, answered, Appends, Loads, Steps};
 use crate::Outcome;
 use crate::actions;
 use crate::moves;
 use crate::moves::Moved;
+use crate::placing;
 use crate::records;
 use crate::records::Numbers;
 use crate::records::Stepped;
@@ -26,15 +27,25 @@ use board::Record;
 use board::Stage;
 use fetch::Fetch;
 use fetch::Fetched;
+use frame::BODY_AT;
 use frame::BUFFER_LEN;
+use frame::KIND_AT;
 use wire::Answer;
 use wire::Refusal;
 
-// A frame to copy is put into the buffer.
-fn load(source: &[u8], fetch: Fetch, n: Numbers, unit: &mut [u8; BUFFER_LEN]) -> Stepped
+// A frame to copy is put into the buffer, and its id has a new place.
+fn load(
+    source: &[u8],
+    fetch: Fetch,
+    n: Numbers,
+    kind: u8,
+    by: u8,
+    places: &mut [u16; 256],
+    unit: &mut [u8; BUFFER_LEN],
+) -> Stepped
     requires { ⌜ (fetch .value + valueLen (fetch .head) ≤ length (now source)) × (valueLen (fetch .head) ≤ valueMax) ⌝ }
-    ensures { λ r. ⌜ ((p f : List ℕ) → LeadsTo p (now (unit .exit)) f r
-        (loaded (assemble n p (now (unit .entry)) f) (loadIn (now (source .entry)) fetch))) ⌝ }
+    ensures { λ r. ⌜ ((f : List ℕ) → Appends kind by f → LeadsTo (now (places .exit)) (now (unit .exit)) f r
+        (loaded (assemble n (now (places .entry)) (now (unit .entry)) f) (loadIn (now (source .entry)) fetch))) ⌝ }
 {
     let head = fetch.head;
     let start = fetch.value;
@@ -44,6 +55,7 @@ fn load(source: &[u8], fetch: Fetch, n: Numbers, unit: &mut [u8; BUFFER_LEN]) ->
     let bytes = frame::encode_frame(edition, head, &source[start..end]);
     *unit = bytes;
     let c = n.cursor;
+    placing::place_copied(kind, by, c.at, head, places);
     let next = Cursor {
         index: 0,
         at: c.at,
@@ -55,15 +67,17 @@ fn load(source: &[u8], fetch: Fetch, n: Numbers, unit: &mut [u8; BUFFER_LEN]) ->
     records::going(Stage::Copy, next, n)
 }
 
-// The next frame to copy is put into the buffer, or the block is sealed.
+// The next frame to copy is put into the buffer, or the block is sealed. Of the frame to append, the kind and host bytes are given.
 pub fn enter_copy(
     image: &[u8],
     blocks: u8,
     n: Numbers,
-    places: &[u16; 256],
+    kind: u8,
+    by: u8,
+    places: &mut [u16; 256],
     unit: &mut [u8; BUFFER_LEN],
 ) -> Stepped
-    ensures { λ r. ⌜ ((f : List ℕ) → LeadsTo (now (places .entry)) (now (unit .exit)) f r
+    ensures { λ r. ⌜ ((f : List ℕ) → Appends kind by f → LeadsTo (now (places .exit)) (now (unit .exit)) f r
         (enterCopy blocks (now (image .entry)) (assemble n (now (places .entry)) (now (unit .entry)) f))) ⌝ }
 {
     let job = n.job;
@@ -82,7 +96,7 @@ pub fn enter_copy(
         cursor.id,
         cursor.source,
     ) {
-        Fetched::Frame(fetch) => return load(source, fetch, n, unit),
+        Fetched::Frame(fetch) => return load(source, fetch, n, kind, by, places, unit),
         Fetched::Nothing => return records::enter(Stage::Seal, n),
     }
 }
@@ -187,34 +201,38 @@ pub fn load_due(
     image: &[u8],
     blocks: u8,
     m: Moved,
-    places: &[u16; 256],
+    places: &mut [u16; 256],
     unit: &mut [u8; BUFFER_LEN],
+    frame: &[u8; BUFFER_LEN],
 ) -> Stepped
-    ensures { λ r. ⌜ Loads blocks (now (image .entry)) (now (places .entry)) (now (unit .entry)) m r (now (unit .exit)) ⌝ }
+    ensures { λ r. ⌜ Loads blocks (now (image .entry)) (now (places .entry)) (now (unit .entry)) (now (frame .entry)) m r
+        (now (places .exit)) (now (unit .exit)) ⌝ }
 {
     let s = m.stepped;
     if m.loads {
         let next = s.next;
-        return enter_copy(image, blocks, next, places, unit);
+        let kind = flash::byte_at(frame, KIND_AT);
+        let by = flash::byte_at(frame, BODY_AT);
+        return enter_copy(image, blocks, next, kind, by, places, unit);
     }
     s
 }
 
-// Inner part of step and run. A step by a record's numbers, its arrays lent. Where the job ended the arrays are the caller's to clear.
+// Inner part of step and run. A step by a record's numbers, its arrays lent. Where the job ended the frames are the caller's to clear.
 pub fn step_core(
     image: &mut [u8],
     blocks: u8,
     n: Numbers,
-    places: &[u16; 256],
+    places: &mut [u16; 256],
     unit: &mut [u8; BUFFER_LEN],
     frame: &[u8; BUFFER_LEN],
 ) -> Stepped
-    ensures { λ r. ⌜ Steps (r .answer) (r .ended) (leaves r (now (places .entry)) (now (unit .exit)) (now (frame .entry))) (now (image .exit))
+    ensures { λ r. ⌜ Steps (r .answer) (r .ended) (leaves r (now (places .exit)) (now (unit .exit)) (now (frame .entry))) (now (image .exit))
         (stepOn blocks (now (image .entry)) (assemble n (now (places .entry)) (now (unit .entry)) (now (frame .entry)))) ⌝ }
 {
     let byte = in_hand(n, unit, frame);
     let m = try_step(image, blocks, n, byte);
-    load_due(image, blocks, m, places, unit)
+    load_due(image, blocks, m, places, unit, frame)
 }
 
 // A step call.
@@ -222,14 +240,14 @@ pub fn step(image: &mut [u8], blocks: u8, board: Record) -> Outcome
     ensures { λ r. ⌜ (let o : Out = stepOn blocks (now (image .entry)) board in
         (now (image .exit) ≡ o .image) × (r .answer ≡ o .answer) × (r .board ≡ o .board)) ⌝ }
 {
-    let places = board.places;
+    let mut places = board.places;
     let mut unit = board.unit;
     let frame = board.frame;
     let s = step_core(
         image,
         blocks,
         records::numbers_of(board),
-        &places,
+        &mut places,
         &mut unit,
         &frame,
     );

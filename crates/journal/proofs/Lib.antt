@@ -4,7 +4,7 @@
 pub mod Lookups  -- objects after a change: for the files below
 pub mod Lists  -- pending lists after a frame: for Room, PerHost, board, store
 pub mod Replaying  -- one frame more, and the frames of a state: for all below, board, store
-pub mod Mapping  -- replay of frames with something else for the values: for Places, Pending, Indexing
+pub mod Mapping  -- replay of frames with something else for the values: for Places, Pending, Tables
 pub mod Room  -- what a state takes of a block: for board
 pub mod PerHost  -- each host's pending bytes: for board, survey, serving
 -- ---- blocks: header, state, making
@@ -18,8 +18,10 @@ pub mod Building  -- a block made write by write: for board
 pub mod Closing  -- a torn frame closed in place: for board
 -- ---- places: where values and pending frames stand
 pub mod Places  -- a place holds its value: for the files below, board, store
-pub mod Pending  -- what is pending stands past `since`: for Loading, Indexing, Passing
+pub mod Pending  -- what is pending stands past `since`: for Loading, Tables, survey
 pub mod Loading  -- a transfer's frames one after the other: for board
+pub mod Tables  -- the places after one frame more: for Copied, board, survey
+pub mod Copied  -- a transfer ends with the places of the block that it makes: for board
 -- ---- document 01's sentences on what promise and machine share: theorems to read
 pub mod ObjectLaws  -- objects after a put and a delete
 pub mod ReplayLaws  -- replay, U and C

@@ -2,23 +2,24 @@
 use mathlib.Core.Path.{_≡_, refl, sym, ap, ap₂, subst, _∙_}
 use mathlib.Core.List.{List, [], _∷_, _++_, map}
 use mathlib.Core.Option.{Option, none, some}
-use mathlib.Core.Bool.{true, false}
+use mathlib.Core.Bool.{Bool, true, false}
 use Prim.Native.Nat.{ℕ, zero, suc, _+_, _-_, _≤_}
 use native.Mathlib.Omega.{arith}
 use lib.Dec.{eqb, leb}
 use lib.ListN.{length, getD, take, drop, length-take, drop-of-length-le}
-use lib.Seq.{take-append-add, take-at, drop-at, drop-drop}
+use lib.Seq.{take-append-add, take-at, drop-at, drop-drop, getD-set-other}
 use borrow.Author.Tests.{ne-eqb, eqb-true, eqb-false, leb-true, leb-false}
 use Rattle.flash.proofs.Cases.{on-test}
 use Rattle.frame.specs.declared.Edition.{Edition}
 use Rattle.frame.specs.declared.Host.{Host}
 use Rattle.frame.specs.Frame.{hostMax, idOf, Change, put, delete, Frame, change, commit, abort, settled, closed, reset, encode, encodeAll, frameLen, total}
 use Rattle.frame.specs.Frame.{MayStand, AllMayStand, nextAfter, nextOf}
+use Rattle.frame.specs.Reader.{Read, blank, whole, torn, wrong, readFrame}
 use Rattle.frame.proofs.Encode.{length-encode, length-all, stands-zero}
 use Rattle.frame.proofs.Exact.{read-back}
 use Rattle.journal.specs.Block.{headerLen}
 use Rattle.journal.specs.Replay.{Object, Entry, entry, lookup, replay, settledFrame, pendingFrame, framesOf, settledOnly}
-use Rattle.journal.specs.Index.{placesOf, sinceOf, Value, valueAt, Load, load, nextSettled, isPending, nextPending, orElse, nextLoad}
+use Rattle.journal.specs.Index.{placesOf, sinceOf, Value, valueAt, Load, load, nextSettled, isPending, nextPending, orElse, nextLoad, placeCopied}
 use Rattle.journal.proofs.Lookups.{lookup-yes, lookup-no}
 use Rattle.journal.proofs.Replaying.{Rising, below-none, rising-from, rising-to, Sound, sound-replay}
 use Rattle.journal.proofs.Places.{Standing, bytesOf, place-value}
@@ -29,6 +30,96 @@ abbrev pub Yields : (ed : Edition) → List ℕ → ℕ → List ℕ → List �
 Yields ed b end places since i s [] = nextLoad ed b end places since i s ≡ none
 Yields ed b end places since i s (f ∷ fs) =
     (i′ : ℕ) × (s′ : ℕ) × (nextLoad ed b end places since i s ≡ some (load f i′ s′)) × (i′ ≤ 256) × (s′ ≤ end) × Yields ed b end places since i′ s′ fs
+
+-- ---- which places are read from a cursor on
+
+-- two tables with the same places from id i on
+abbrev pub SameFrom : ℕ → List ℕ → List ℕ → Type 0
+SameFrom i ps qs = (j : ℕ) → i ≤ j → j ≤ 255 → getD ps j 0 ≡ getD qs j 0
+
+settled-same : (ed : Edition) (b ps qs : List ℕ) (source n i : ℕ) → i + n ≤ 256 → SameFrom i ps qs
+    → nextSettled ed b ps source n i ≡ nextSettled ed b qs source n i
+unfolding nextSettled
+settled-same ed b ps qs source zero i l h = refl
+settled-same ed b ps qs source (suc n) i l h =
+    ap₂ (λ (p : ℕ) (o : Option Load). elim (valueAt ed b (idOf i) p) [ some x ↦ some (load (settled (idOf i) (x .bytes)) (suc i) source) | none ↦ o ])
+    (h i (omega arith) (omega arith)) (settled-same ed b ps qs source n (suc i) (omega arith) (λ j k m. h j (omega arith) m))
+
+pub load-same : (ed : Edition) (b : List ℕ) (end : ℕ) (ps qs since : List ℕ) (i source : ℕ) → SameFrom i ps qs
+    → nextLoad ed b end ps since i source ≡ nextLoad ed b end qs since i source
+unfolding nextLoad nextSettled
+load-same ed b end ps qs since i source h =
+    let rest : Option Load = nextPending ed since source 0 (drop source (take end b)) in
+    on-test (leb i 256)
+    (λ t. ap (λ (o : Option Load). orElse o rest) (settled-same ed b ps qs source (256 - i) i (omega (arith, leb-true i 256 t)) h))
+    (λ t.
+    let z : 256 - i ≡ 0 = omega (arith, leb-false i 256 t) in
+    ap (λ (n : ℕ). orElse (nextSettled ed b ps source n i) rest) z ∙ sym (ap (λ (n : ℕ). orElse (nextSettled ed b qs source n i) rest) z))
+
+-- a settled frame that is next is of an id from the cursor on, and the cursor then stands past it
+record NextIs (i : ℕ) (u : Load) : Type 0 where
+  id : ℕ
+  value : List ℕ
+  frame : u .frame ≡ settled (idOf id) value
+  from : i ≤ id
+  then : u .id ≡ suc id
+
+next-settled : (ed : Edition) (b ps : List ℕ) (source n i : ℕ) (u : Load) → nextSettled ed b ps source n i ≡ some u → NextIs i u
+unfolding nextSettled
+next-settled ed b ps source zero i u e = let z : _≡_ {A = ℕ} 0 1 = cc in absurd (omega arith)
+next-settled ed b ps source (suc n) i u e = go (valueAt ed b (idOf i) (getD ps i 0)) e (next-settled ed b ps source n (suc i) u)
+  where
+    go : (o : Option Value)
+        → elim o [ some x ↦ some (load (settled (idOf i) (x .bytes)) (suc i) source) | none ↦ nextSettled ed b ps source n (suc i) ] ≡ some u
+        → (nextSettled ed b ps source n (suc i) ≡ some u → NextIs (suc i) u) → NextIs i u
+    go (some x) q again =
+        let w : load (settled (idOf i) (x .bytes)) (suc i) source ≡ u = cc in
+        subst (NextIs i) w (record { id = i; value = x .bytes; frame = refl; from = omega arith; then = refl })
+    go none q again =
+        let y : NextIs (suc i) u = again q in
+        record { id = y .id; value = y .value; frame = y .frame; from = omega (arith, y .from); then = y .then }
+
+next-pending : (ed : Edition) (since : List ℕ) (at k : ℕ) (l : List ℕ) (u : Load) → nextPending ed since at k l ≡ some u → u .id ≡ 256
+unfolding nextPending
+next-pending ed since at k [] u e = let z : _≡_ {A = ℕ} 0 1 = cc in absurd (omega arith)
+next-pending ed since at (suc k) (b ∷ t) u e = next-pending ed since (suc at) k t u e
+next-pending ed since at zero (b ∷ t) u e = go (readFrame ed 0 at (b ∷ t)) e (λ k. next-pending ed since (suc at) k t u)
+  where
+    found : (f : Frame) (x : Bool) → elim x [
+      | true ↦ some (load f 256 (at + frameLen ed f))
+      | false ↦ nextPending ed since (suc at) (frameLen ed f - 1) t
+    ] ≡ some u → ((k : ℕ) → nextPending ed since (suc at) k t ≡ some u → u .id ≡ 256) → u .id ≡ 256
+    found f true q again = let w : load f 256 (at + frameLen ed f) ≡ u = cc in ap (λ (v : Load). v .id) (sym w)
+    found f false q again = again (frameLen ed f - 1) q
+
+    go : (r : Read) → elim r [
+      | blank ↦ none
+      | whole f ↦ elim (isPending since at f) [
+        | true ↦ some (load f 256 (at + frameLen ed f))
+        | false ↦ nextPending ed since (suc at) (frameLen ed f - 1) t
+      ]
+      | torn n ↦ none
+      | wrong e ↦ none
+    ] ≡ some u → ((k : ℕ) → nextPending ed since (suc at) k t ≡ some u → u .id ≡ 256) → u .id ≡ 256
+    go blank q again = let z : _≡_ {A = ℕ} 0 1 = cc in absurd (omega arith)
+    go (whole f) q again = found f (isPending since at f) q again
+    go (torn n) q again = let z : _≡_ {A = ℕ} 0 1 = cc in absurd (omega arith)
+    go (wrong x) q again = let z : _≡_ {A = ℕ} 0 1 = cc in absurd (omega arith)
+
+-- where the next frame is placed once it is copied, no place from the cursor on changes
+pub load-past : (ed : Edition) (b : List ℕ) (end : ℕ) (ps since : List ℕ) (i source : ℕ) (u : Load) (ends : Host → Bool) (o : ℕ) (qs : List ℕ)
+    → nextLoad ed b end ps since i source ≡ some u → SameFrom i qs ps → SameFrom (u .id) (placeCopied ends o (u .frame) qs) ps
+unfolding nextLoad
+load-past ed b end ps since i source u ends o qs e h = go (nextSettled ed b ps source (256 - i) i) refl e
+  where
+    go : (x : Option Load) → nextSettled ed b ps source (256 - i) i ≡ x
+        → orElse x (nextPending ed since source 0 (drop source (take end b))) ≡ some u → SameFrom (u .id) (placeCopied ends o (u .frame) qs) ps
+    go none s q j l m = let w : u .id ≡ 256 = next-pending ed since source 0 (drop source (take end b)) u q in absurd (omega arith)
+    go (some v) s q j l m =
+        let w : v ≡ u = cc in
+        let y : NextIs i u = subst (NextIs i) w (next-settled ed b ps source (256 - i) i v s) in
+        ap (λ (f : Frame). getD (placeCopied ends o f qs) j 0) (y .frame)
+        ∙ getD-set-other qs (y .id) j o 0 (λ d. omega (arith, y .then)) ∙ h j (omega (arith, y .from, y .then)) m
 
 -- ---- the next pending frame
 

@@ -2,28 +2,29 @@
 use mathlib.Core.Path.{_≡_, refl, sym, ap, ap₂, subst, _∙_}
 use mathlib.Core.List.{List, [], _∷_, _++_, append-assoc}
 use mathlib.Core.Option.{Option, none, some, Option·map}
-use mathlib.Core.Bool.{Bool, cond}
+use mathlib.Core.Bool.{Bool, cond, true, false}
 use Prim.Native.Nat.{ℕ, _+_, _≤_, _<_}
 use native.Mathlib.Omega.{arith}
 use lib.Dec.{eqb}
 use lib.ListN.{length, getD, drop, length-append}
-use lib.Seq.{drop-at}
+use lib.Seq.{drop-at, ext-getD}
 use borrow.Author.Tests.{eq-eqb, ne-eqb, eqb-true}
 use Rattle.flash.proofs.Cases.{on-test}
 use Rattle.frame.specs.declared.Edition.{Edition}
 use Rattle.frame.specs.declared.ObjectId.{ObjectId}
-use Rattle.frame.specs.Frame.{Frame, mapFrame, encode, encodeAll, frameLen, total, MayStand, AllMayStand, nextAfter}
-use Rattle.frame.specs.Reader.{whole, readFrame}
+use Rattle.frame.specs.Frame.{idOf, Frame, mapFrame, encode, encodeAll, frameLen, total, MayStand, AllMayStand, nextAfter}
+use Rattle.frame.specs.Frame.{put, delete, change, commit, abort, settled, closed, reset}
+use Rattle.frame.specs.Reader.{whole, readFrame, Read, blank, torn, wrong}
 use Rattle.frame.proofs.Encode.{length-all, total-snoc, encode-append, stands-zero}
 use Rattle.frame.proofs.Exact.{read-back}
 use Rattle.journal.specs.Block.{headerLen, Journal, header, validData}
 use Rattle.frame.proofs.Heads.{map-plain}
 use Rattle.journal.specs.Replay.{lookup, replay}
-use Rattle.journal.specs.Index.{orZero, placesOf, valueAt}
+use Rattle.journal.specs.Index.{orZero, placesOf, valueAt, Value, onlyIf, frameValue, valueRead}
 use Rattle.journal.specs.Sentences.{ValidBlock}
-use Rattle.journal.specs.Laws.{Holder, putBy, settledAs, holding, front, objectsAfter, TakenFrom, PlaceExact}
+use Rattle.journal.specs.Laws.{Holder, putBy, settledAs, holding, front, objectsAfter, TakenFrom, PlaceIs, PlacesAre, PlaceExact}
 use Rattle.journal.proofs.Mapping.{by-holder, located, OfFrame, AllFrames, all-replay, all-lookup}
-use Rattle.journal.proofs.Places.{Spot, spot, spots, spots-lookup, sited-lookup, bytes-lookup, place-at, no-place, value-zero}
+use Rattle.journal.proofs.Places.{Spot, spot, spots, spots-lookup, sited-lookup, bytes-lookup, place-at, no-place, value-zero, length-places}
 
 -- ---- the frame at a place
 
@@ -91,11 +92,50 @@ stands-there : (ed : Edition) (n : ℕ) (xs ys : List Frame) (f : Frame) → All
 stands-there ed n [] ys f (g, gs) = stands-zero ed n f g
 stands-there ed n (x ∷ xs) ys f (g, gs) = stands-there ed (nextAfter x) xs ys f gs
 
-value-there : (ed : Edition) (b : List ℕ) (k : Holder) (i : ObjectId) (v : List ℕ) (p : ℕ) → headerLen ≤ p
+-- a frame that holds a value of the id is found at its place, and nothing else is
+pub value-there : (ed : Edition) (b : List ℕ) (k : Holder) (i : ObjectId) (v : List ℕ) (p : ℕ) → (p ≡ 0 → ⊥)
     → readFrame ed 0 p (drop p b) ≡ whole (holding k i v) → valueAt ed b i p ≡ some (record { at = p + front k; bytes = v })
 unfolding valueAt
-value-there ed b (putBy h) i v p l e = rw (ne-eqb p 0 (omega arith), e, eq-eqb (i .0) (i .0) refl, valueAt) refl
-value-there ed b settledAs i v p l e = rw (ne-eqb p 0 (omega arith), e, eq-eqb (i .0) (i .0) refl, valueAt) refl
+value-there ed b (putBy h) i v p l e = rw (ne-eqb p 0 l, e, eq-eqb (i .0) (i .0) refl, valueAt) refl
+value-there ed b settledAs i v p l e = rw (ne-eqb p 0 l, e, eq-eqb (i .0) (i .0) refl, valueAt) refl
+
+pub record FrameThere (ed : Edition) (b : List ℕ) (i : ObjectId) (p : ℕ) (x : Value) : Type 0 where
+  pub holder : Holder
+  pub value : List ℕ
+  pub read : readFrame ed 0 p (drop p b) ≡ whole (holding holder i value)
+  pub is : x ≡ record { at = p + front holder; bytes = value }
+
+only-own : (b : Bool) (y x : Value) → onlyIf b y ≡ some x → (b ≡ true) × (y ≡ x)
+only-own true y x e = (refl, cc)
+only-own false y x e = let z : _≡_ {A = ℕ} 0 1 = cc in absurd (omega arith)
+
+pub value-inv : (ed : Edition) (b : List ℕ) (i : ObjectId) (p : ℕ) (x : Value) → valueAt ed b i p ≡ some x → FrameThere ed b i p x
+unfolding valueAt
+value-inv ed b i p x e =
+    on-test (eqb p 0)
+    (λ t. let z : none ≡ some x = rw (t, valueAt) at e in let y : _≡_ {A = ℕ} 0 1 = cc in absurd (omega arith))
+    (λ t. let z : valueRead i p (readFrame ed 0 p (drop p b)) ≡ some x = rw (t, valueAt) at e in go (readFrame ed 0 p (drop p b)) refl z)
+  where
+    own : (f : Frame) → readFrame ed 0 p (drop p b) ≡ whole f → frameValue i p f ≡ some x → FrameThere ed b i p x
+    own (change h (put j v)) r q =
+        let w = only-own (eqb (i .0) (j .0)) (record { at = p + 7; bytes = v }) x q in
+        let s : j ≡ i = ap idOf (sym (eqb-true (i .0) (j .0) (w .0))) in
+        record { holder = putBy h; value = v; read = r ∙ ap (λ (k : ObjectId). whole (change h (put k v))) s; is = sym (w .1) }
+    own (change h (delete j)) r q = let y : _≡_ {A = ℕ} 0 1 = cc in absurd (omega arith)
+    own (commit h) r q = let y : _≡_ {A = ℕ} 0 1 = cc in absurd (omega arith)
+    own (abort h) r q = let y : _≡_ {A = ℕ} 0 1 = cc in absurd (omega arith)
+    own (settled j v) r q =
+        let w = only-own (eqb (i .0) (j .0)) (record { at = p + 6; bytes = v }) x q in
+        let s : j ≡ i = ap idOf (sym (eqb-true (i .0) (j .0) (w .0))) in
+        record { holder = settledAs; value = v; read = r ∙ ap (λ (k : ObjectId). whole (settled k v)) s; is = sym (w .1) }
+    own (closed v) r q = let y : _≡_ {A = ℕ} 0 1 = cc in absurd (omega arith)
+    own reset r q = let y : _≡_ {A = ℕ} 0 1 = cc in absurd (omega arith)
+
+    go : (r : Read) → readFrame ed 0 p (drop p b) ≡ r → valueRead i p r ≡ some x → FrameThere ed b i p x
+    go blank r q = let y : _≡_ {A = ℕ} 0 1 = cc in absurd (omega arith)
+    go (whole f) r q = own f r q
+    go (torn n) r q = let y : _≡_ {A = ℕ} 0 1 = cc in absurd (omega arith)
+    go (wrong w) r q = let y : _≡_ {A = ℕ} 0 1 = cc in absurd (omega arith)
 
 -- ---- what replay of the spots finds
 
@@ -112,6 +152,46 @@ module _ (ed : Edition) (fs : List Frame) (i : ObjectId) (v : List ℕ) (s : loo
 apart : (h p f n r : List ℕ) → h ++ ((p ++ (f ++ n)) ++ r) ≡ (h ++ p) ++ (f ++ (n ++ r))
 apart h p f n r = simp append-assoc
 
+-- the frame that replay took an id's value from, and its place in the table
+module _ (ed : Edition) (fs : List Frame) (i : ObjectId) (v : List ℕ) (h : i .0 ≤ 255) (s : lookup i (objectsAfter fs) ≡ some v) (x : Spot)
+    (q : lookup i (replay (spots ed headerLen fs) .objects) ≡ some x) where
+  place-is : getD (placesOf ed fs) (i .0) 0 ≡ x .place
+  place-is = place-at ed fs i h ∙ ap orZero (sited-lookup ed fs i ∙ ap (Option·map (λ (u : Spot). u .place)) q)
+
+  split : Split ed fs i (x .place) v
+  split =
+      let a : AllFrames (SplitAt ed fs) (spots ed headerLen fs) = split-all ed fs [] fs headerLen refl (no-frames ed) in
+      subst (Split ed fs i (x .place)) (bytes-are ed fs i v s x q)
+      (all-lookup (SplitAt ed fs) i (replay (spots ed headerLen fs) .objects) x (all-replay (SplitAt ed fs) (spots ed headerLen fs) a .0) q)
+
+  taken : (z : Split ed fs i (x .place) v) (w : List ℕ) → lookup i (objectsAfter (z .before ++ (holding (z .holder) i w ∷ z .after))) ≡ some w
+  taken z w =
+      let g : Spot → List ℕ = λ u. swap (x .place) w (u .place) (u .bytes) in
+      let e : located ed (swap (x .place) w) headerLen fs ≡ z .before ++ (holding (z .holder) i w ∷ z .after) =
+      ap (located ed (swap (x .place) w) headerLen) (z .stands) ∙ swapped ed (x .place) w headerLen (z .before) (z .holder) i v (z .after) (z .place) in
+      ap (λ (l : List Frame). lookup i (replay l .objects)) (sym e) ∙ spots-lookup ed g fs i ∙ ap (Option·map g) q
+      ∙ ap (λ (d : Bool). some (cond d w (x .bytes))) (eq-eqb (x .place) (x .place) refl)
+
+  from-frame : (z : Split ed fs i (x .place) v) → TakenFrom ed fs i v (x .place + front (z .holder))
+  from-frame z =
+      record {
+        before = z .before;
+        holder = z .holder;
+        after = z .after;
+        stands = z .stands;
+        taken = taken z;
+        at-is = omega (arith, z .place, length-all ed (z .before));
+      }
+
+  placed : PlaceIs ed fs i v (getD (placesOf ed fs) (i .0) 0)
+  unfolding from-frame
+  placed =
+      record {
+        at = x .place + front (split .holder);
+        from = from-frame split;
+        starts = ap (λ (p : ℕ). p + front (split .holder)) place-is;
+      }
+
 module _ (b : List ℕ) (j : Journal) (i : ObjectId) (v : List ℕ) (y : ValidBlock b j) (h : i .0 ≤ 255) (s : lookup i (objectsAfter (j .frames)) ≡ some v) where
   abbrev fs : List Frame
   fs = j .frames
@@ -121,26 +201,6 @@ module _ (b : List ℕ) (j : Journal) (i : ObjectId) (v : List ℕ) (y : ValidBl
       × TakenFrom (j .edition) fs i v at
 
   module _ (x : Spot) (q : lookup i (replay (spots (j .edition) headerLen fs) .objects) ≡ some x) where
-    place-is : getD (placesOf (j .edition) fs) (i .0) 0 ≡ x .place
-    place-is = place-at (j .edition) fs i h ∙ ap orZero (sited-lookup (j .edition) fs i ∙ ap (Option·map (λ (u : Spot). u .place)) q)
-
-    split : Split (j .edition) fs i (x .place) v
-    split =
-        let a : AllFrames (SplitAt (j .edition) fs) (spots (j .edition) headerLen fs) =
-        split-all (j .edition) fs [] fs headerLen refl (no-frames (j .edition)) in
-        subst (Split (j .edition) fs i (x .place)) (bytes-are (j .edition) fs i v s x q)
-        (all-lookup (SplitAt (j .edition) fs) i (replay (spots (j .edition) headerLen fs) .objects) x
-        (all-replay (SplitAt (j .edition) fs) (spots (j .edition) headerLen fs) a .0) q)
-
-    taken : (z : Split (j .edition) fs i (x .place) v) (w : List ℕ) → lookup i (objectsAfter (z .before ++ (holding (z .holder) i w ∷ z .after))) ≡ some w
-    taken z w =
-        let g : Spot → List ℕ = λ u. swap (x .place) w (u .place) (u .bytes) in
-        let e : located (j .edition) (swap (x .place) w) headerLen fs ≡ z .before ++ (holding (z .holder) i w ∷ z .after) =
-        ap (located (j .edition) (swap (x .place) w) headerLen) (z .stands)
-        ∙ swapped (j .edition) (x .place) w headerLen (z .before) (z .holder) i v (z .after) (z .place) in
-        ap (λ (l : List Frame). lookup i (replay l .objects)) (sym e) ∙ spots-lookup (j .edition) g fs i ∙ ap (Option·map g) q
-        ∙ ap (λ (d : Bool). some (cond d w (x .bytes))) (eq-eqb (x .place) (x .place) refl)
-
     read : (z : Split (j .edition) fs i (x .place) v) → readFrame (j .edition) 0 (x .place) (drop (x .place) b) ≡ whole (holding (z .holder) i v)
     unfolding encodeAll
     read z =
@@ -164,15 +224,9 @@ module _ (b : List ℕ) (j : Journal) (i : ObjectId) (v : List ℕ) (y : ValidBl
     found : Split (j .edition) fs i (x .place) v → Found
     found z = (
       x .place + front (z .holder),
-      ap (valueAt (j .edition) b i) place-is ∙ value-there (j .edition) b (z .holder) i v (x .place) (omega (arith, z .place)) (read z),
-      record {
-        before = z .before;
-        holder = z .holder;
-        after = z .after;
-        stands = z .stands;
-        taken = taken z;
-        at-is = omega (arith, z .place, length-all (j .edition) (z .before));
-      },
+      ap (valueAt (j .edition) b i) (place-is (j .edition) fs i v h s x q)
+          ∙ value-there (j .edition) b (z .holder) i v (x .place) (λ e. omega (arith, z .place)) (read z),
+      from-frame (j .edition) fs i v h s x q z,
     )
 
   found-some : Found
@@ -180,7 +234,7 @@ module _ (b : List ℕ) (j : Journal) (i : ObjectId) (v : List ℕ) (y : ValidBl
     where
       go : (o : Option Spot) → lookup i (replay (spots (j .edition) headerLen fs) .objects) ≡ o → Found
       go none q = no-spot (j .edition) fs i v s q
-      go (some x) q = found x q (split x q)
+      go (some x) q = found x q (split (j .edition) fs i v h s x q)
 
 -- ---- the words settle the place
 
@@ -223,23 +277,66 @@ module _ (ed : Edition) (fs : List Frame) (i : ObjectId) (v : List ℕ) where
       let l : length v ≡ length w = ap length (sym (bytes-are ed fs i v (has at z) x q) ∙ c) in
       absurd (omega arith))
 
-  once : (at at′ : ℕ) → TakenFrom ed fs i v at → TakenFrom ed fs i v at′ → at ≡ at′
-  once at at′ z z′ = go (lookup i (replay (spots ed headerLen fs) .objects)) refl
+  -- both stand after as many bytes, in the same frame
+  same-frames : (at at′ : ℕ) (z : TakenFrom ed fs i v at) (z′ : TakenFrom ed fs i v at′)
+      → (total ed (z .before) ≡ total ed (z′ .before)) × (front (z .holder) ≡ front (z′ .holder))
+  same-frames at at′ z z′ = go (lookup i (replay (spots ed headerLen fs) .objects)) refl
     where
-      go : (o : Option Spot) → lookup i (replay (spots ed headerLen fs) .objects) ≡ o → at ≡ at′
+      go : (o : Option Spot) → lookup i (replay (spots ed headerLen fs) .objects) ≡ o
+          → (total ed (z .before) ≡ total ed (z′ .before)) × (front (z .holder) ≡ front (z′ .holder))
       go none q = no-spot ed fs i v (has at z) q
       go (some x) q =
-          let n : total ed (z .before) ≡ total ed (z′ .before) = omega (arith, at-frame at z x q, at-frame at′ z′ x q) in
-          let f : front (z .holder) ≡ front (z′ .holder) =
-          same-front (z .holder) (z′ .holder) i v
-          (same-frame ed (z .before) (z′ .before) (holding (z .holder) i v) (holding (z′ .holder) i v) (z .after) (z′ .after) n
-          (sym (z .stands) ∙ z′ .stands)) in
-          omega (arith, z .at-is, z′ .at-is, length-all ed (z .before), length-all ed (z′ .before))
+          let n : total ed (z .before) ≡ total ed (z′ .before) = omega (arith, at-frame at z x q, at-frame at′ z′ x q) in (
+            n,
+            same-front (z .holder) (z′ .holder) i v
+                (same-frame ed (z .before) (z′ .before) (holding (z .holder) i v) (holding (z′ .holder) i v) (z .after) (z′ .after) n
+                (sym (z .stands) ∙ z′ .stands)),
+          )
+
+  same-holder : (at at′ : ℕ) (z : TakenFrom ed fs i v at) (z′ : TakenFrom ed fs i v at′) → front (z .holder) ≡ front (z′ .holder)
+  same-holder at at′ z z′ = same-frames at at′ z z′ .1
+
+  once : (at at′ : ℕ) → TakenFrom ed fs i v at → TakenFrom ed fs i v at′ → at ≡ at′
+  once at at′ z z′ =
+      let w = same-frames at at′ z z′ in
+      omega (arith, w .0, w .1, z .at-is, z′ .at-is, length-all ed (z .before), length-all ed (z′ .before))
+
+-- ---- the table
+
+places-are : (ed : Edition) (fs : List Frame) → PlacesAre ed (placesOf ed fs) fs
+places-are ed fs =
+    record {
+      all = length-places ed fs;
+      there = λ i v h s. go i v h s (lookup i (replay (spots ed headerLen fs) .objects)) refl;
+      absent = λ i h n. no-place ed fs i h n;
+    }
+  where
+    go : (i : ObjectId) (v : List ℕ) → i .0 ≤ 255 → lookup i (objectsAfter fs) ≡ some v → (o : Option Spot)
+        → lookup i (replay (spots ed headerLen fs) .objects) ≡ o → PlaceIs ed fs i v (getD (placesOf ed fs) (i .0) 0)
+    go i v h s none q = no-spot ed fs i v s q
+    go i v h s (some x) q = placed ed fs i v h s x q
+
+places-only : (ed : Edition) (ps : List ℕ) (fs : List Frame) → PlacesAre ed ps fs → ps ≡ placesOf ed fs
+places-only ed ps fs y =
+    ext-getD 0 ps (placesOf ed fs) (y .all ∙ sym (length-places ed fs)) (λ j l. go j (omega (arith, y .all)) (lookup (idOf j) (objectsAfter fs)) refl)
+  where
+    -- of two frames that replay took the value from, both start at one place
+    same-start : (i : ObjectId) (v : List ℕ) (p q : ℕ) → PlaceIs ed fs i v p → PlaceIs ed fs i v q → p ≡ q
+    same-start i v p q z w =
+        let n : z .at ≡ w .at = once ed fs i v (z .at) (w .at) (z .from) (w .from) in
+        let f : front (z .from .holder) ≡ front (w .from .holder) = same-holder ed fs i v (z .at) (w .at) (z .from) (w .from) in
+        omega (arith, z .starts, w .starts)
+
+    go : (j : ℕ) → j ≤ 255 → (o : Option (List ℕ)) → lookup (idOf j) (objectsAfter fs) ≡ o → getD ps j 0 ≡ getD (placesOf ed fs) j 0
+    go j l none q = y .absent (idOf j) l q ∙ sym (no-place ed fs (idOf j) l q)
+    go j l (some v) q = same-start (idOf j) v (getD ps j 0) (getD (placesOf ed fs) j 0) (y .there (idOf j) v l q) (places-are ed fs .there (idOf j) v l q)
 
 pub place-exact : PlaceExact
 place-exact =
     record {
       found = found-some;
       absent = λ ed b fs i h n. ap (valueAt ed b i) (no-place ed fs i h n) ∙ value-zero ed b i;
+      places-are = places-are;
+      places-only = places-only;
       once = once;
     }

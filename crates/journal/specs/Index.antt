@@ -4,11 +4,11 @@ use mathlib.Core.Option.{Option, none, some}
 use mathlib.Core.Bool.{Bool, true, false}
 use Prim.Native.Nat.{ℕ, zero, suc, _+_, _-_}
 use lib.Dec.{eqb, leb}
-use lib.ListN.{getD, take, drop}
+use lib.ListN.{getD, take, drop, set}
 use Rattle.frame.specs.declared.Edition.{Edition}
 use Rattle.frame.specs.declared.Host.{Host}
 use Rattle.frame.specs.declared.ObjectId.{ObjectId}
-use Rattle.frame.specs.Frame.{hostOf, idOf, put, delete, FrameOf, Frame, change, commit, abort, settled, closed, reset, mapFrame, frameLen}
+use Rattle.frame.specs.Frame.{hostOf, idOf, ChangeOf, put, delete, FrameOf, Frame, change, commit, abort, settled, closed, reset, mapChange, mapFrame, frameLen}
 use Rattle.frame.specs.Frame.{putValueAt, settledValueAt}
 use Rattle.frame.specs.Reader.{Read, blank, whole, torn, wrong, readFrame}
 use Rattle.journal.specs.Replay.{ObjectOf, lookup, replay}
@@ -143,3 +143,37 @@ orElse none o = o
 unfoldable pub nextLoad : Edition → List ℕ → ℕ → List ℕ → List ℕ → ℕ → ℕ → Option Load
 nextLoad ed b end places since id source =
     orElse (nextSettled ed b places source (256 - id) id) (nextPending ed since source 0 (drop source (take end b)))
+
+-- ---- the places while a transfer copies, document 02, K8
+
+-- what a change of a frame at offset p does: a put's place is p, and a delete leaves none
+abbrev pub placeChange : ChangeOf ℕ → List ℕ → List ℕ
+placeChange (put i p) t = set t (i .0) p
+placeChange (delete i) t = set t (i .0) 0
+
+abbrev pub placeIf : Bool → ChangeOf ℕ → List ℕ → List ℕ
+placeIf true c t = placeChange c t
+placeIf false c t = t
+
+-- a frame that is copied to offset o: a settled object stands there, and a change of a host whose commit the job ends with
+abbrev pub placeCopied : (Host → Bool) → ℕ → Frame → List ℕ → List ℕ
+placeCopied ends o (change h c) t = placeIf (ends h) (mapChange (λ v. o) c) t
+placeCopied ends o (commit h) t = t
+placeCopied ends o (abort h) t = t
+placeCopied ends o (settled i v) t = set t (i .0) o
+placeCopied ends o (closed v) t = t
+placeCopied ends o reset t = t
+
+-- frames one after the other, the first to offset o
+unfoldable pub placeAll : Edition → (Host → Bool) → ℕ → List Frame → List ℕ → List ℕ
+placeAll ed ends o [] t = t
+placeAll ed ends o (f ∷ fs) t = placeAll ed ends (o + frameLen ed f) fs (placeCopied ends o f t)
+
+-- whose commit a frame is
+abbrev pub commits : Frame → Host → Bool
+commits (change g c) h = false
+commits (commit g) h = eqb (g .0) (h .0)
+commits (abort g) h = false
+commits (settled i v) h = false
+commits (closed v) h = false
+commits reset h = false

@@ -196,6 +196,18 @@ pub record TakenFrom (ed : Edition) (fs : List Frame) (i : ObjectId) (v : List �
   pub taken : (w : List ℕ) → lookup i (objectsAfter (before ++ (holding holder i w ∷ after))) ≡ some w
   pub at-is : at ≡ 16 + length (encodeAll ed before) + front holder
 
+-- document 02, K8: "where replay finds its settled value", by the offset of its frame
+pub record PlaceIs (ed : Edition) (fs : List Frame) (i : ObjectId) (v : List ℕ) (p : ℕ) : Type 0 where
+  pub at : ℕ
+  pub from : TakenFrom ed fs i v at
+  pub starts : p + front (from .holder) ≡ at
+
+-- "for every id, where replay finds its settled value or that there is none": one for each of 256 ids, 0 for none
+pub record PlacesAre (ed : Edition) (ps : List ℕ) (fs : List Frame) : Type 0 where
+  pub all : length ps ≡ 256
+  pub there : (i : ObjectId) (v : List ℕ) → i .0 ≤ 255 → lookup i (objectsAfter fs) ≡ some v → PlaceIs ed fs i v (getD ps (i .0) 0)
+  pub absent : (i : ObjectId) → i .0 ≤ 255 → lookup i (objectsAfter fs) ≡ none → getD ps (i .0) 0 ≡ 0
+
 -- in a valid block, by the place that the table has for the id
 pub record PlaceExact : Type 0 where
   pub found : (b : List ℕ) (j : Journal) (i : ObjectId) (v : List ℕ) → ValidBlock b j → i .0 ≤ 255 → lookup i (objectsAfter (j .frames)) ≡ some v
@@ -203,5 +215,8 @@ pub record PlaceExact : Type 0 where
       × TakenFrom (j .edition) (j .frames) i v at
   pub absent : (ed : Edition) (b : List ℕ) (fs : List Frame) (i : ObjectId) → i .0 ≤ 255 → lookup i (objectsAfter fs) ≡ none
       → valueAt ed b i (getD (placesOf ed fs) (i .0) 0) ≡ none
+  -- the table is the one that the words ask for
+  pub places-are : (ed : Edition) (fs : List Frame) → PlacesAre ed (placesOf ed fs) fs
+  pub places-only : (ed : Edition) (ps : List ℕ) (fs : List Frame) → PlacesAre ed ps fs → ps ≡ placesOf ed fs
   -- the words settle the place
   pub once : (ed : Edition) (fs : List Frame) (i : ObjectId) (v : List ℕ) (at at′ : ℕ) → TakenFrom ed fs i v at → TakenFrom ed fs i v at′ → at ≡ at′

@@ -9,7 +9,7 @@ use Rattle.flash.specs.Flash.{maxBlocks}
 use Rattle.frame.specs.Frame.{bufferLen}
 use Rattle.lent.specs.Layout.{sinceAt, closeAt, pendingAt, placesAt, placesSize, jobAt, unitAt, frameAt, recordSize}
 use Rattle.lent.specs.Layout.{bytesIn, wordsIn, recordIn, wordBytes}
-use Rattle.lent.proofs.Words.{words-own}
+use Rattle.lent.proofs.Words.{length-word-bytes, words-back, words-own}
 use Rattle.lent.proofs.Inverse.{Sized, array-back}
 
 -- ---- lengths
@@ -62,6 +62,27 @@ module _ (l : List ℕ) (size : length l ≡ recordSize) where
       let f : length (drop frameAt l) ≡ bufferLen = simp length-drop (omega arith) in
       rw (bytes-own bufferLen (drop unitAt l) u, bytes-own bufferLen (drop frameAt l) (omega arith), take-all bufferLen (drop frameAt l) (omega arith))
       (ap (λ (t : List ℕ). take bufferLen (drop unitAt l) ++ t) (sym (drop-drop bufferLen unitAt l)) ∙ take-append-drop bufferLen (drop unitAt l))
+
+  -- other places: x is the buffer then
+  module _ (p x : List ℕ) (n : length p ≡ 256) (e : x ≡ (take placesAt l ++ wordBytes p) ++ drop jobAt l) where
+    head : length (take placesAt l) ≡ placesAt
+    head = length-take-le placesAt l (omega arith)
+
+    pub places-laid : recordIn x .places ≡ p
+    unfolding recordIn
+    places-laid =
+        ap (λ (t : List ℕ). wordsIn 256 (drop placesAt t)) (e ∙ append-assoc (take placesAt l) (wordBytes p) (drop jobAt l))
+        ∙ ap (wordsIn 256) (drop-at (take placesAt l) (wordBytes p ++ drop jobAt l) placesAt head)
+        ∙ words-back p (drop jobAt l) 256 n
+
+    pub frame-after : recordIn x .frame ≡ recordIn l .frame
+    unfolding recordIn
+    frame-after =
+        let w : length (take placesAt l ++ wordBytes p) ≡ jobAt = length-append (take placesAt l) (wordBytes p) ∙ rw (head, length-word-bytes, n) in
+        let f : jobAt + (frameAt - jobAt) ≡ frameAt = refl in
+        ap (λ (t : List ℕ). bytesIn bufferLen (drop frameAt t)) e
+        ∙ ap (bytesIn bufferLen) (sym (drop-drop (frameAt - jobAt) jobAt ((take placesAt l ++ wordBytes p) ++ drop jobAt l))
+        ∙ ap (drop (frameAt - jobAt)) (drop-at (take placesAt l ++ wordBytes p) (drop jobAt l) jobAt w) ∙ drop-drop (frameAt - jobAt) jobAt l)
 
   -- another frame in the place of the one that is copied: x is the buffer then
   module _ (u x : List ℕ) (n : length u ≡ bufferLen) (e : x ≡ (take unitAt l ++ u) ++ drop frameAt l) where

@@ -26,6 +26,21 @@ next-word (suc n) l =
 pub word-there : (l : List ℕ) (i : ℕ) → getD l (2 * i) 0 + 256 * getD l (2 * i + 1) 0 ≡ wordAt (drop (2 * i) l) 0
 word-there l i = rw (getD-drop (2 * i) l 0 0, getD-drop (2 * i) l 1 0, add-zero) (omega arith)
 
+-- one of n words, and of those from a place on
+word-of : (n : ℕ) (l : List ℕ) (i : ℕ) → i < n → getD (wordsIn n l) i 0 ≡ wordAt l (2 * i)
+unfolding wordsIn
+word-of zero l i h = absurd (omega arith)
+word-of (suc n) l zero h = refl
+word-of (suc n) l (suc i) h =
+    let e : 2 + 2 * i ≡ 2 * suc i = omega arith in
+    let f : 2 + (2 * i + 1) ≡ 2 * suc i + 1 = omega arith in
+    word-of n (drop 2 l) i (omega arith) ∙ rw (getD-drop 2 l (2 * i) 0, getD-drop 2 l (2 * i + 1) 0, e, f)
+
+pub word-from : (at n : ℕ) (l : List ℕ) (i : ℕ) → i < n → wordAt l (at + 2 * i) ≡ getD (wordsIn n (drop at l)) i 0
+word-from at n l i h =
+    let e : at + (2 * i + 1) ≡ at + 2 * i + 1 = omega arith in
+    sym (word-of n (drop at l) i h ∙ rw (getD-drop at l (2 * i) 0, getD-drop at l (2 * i + 1) 0, e))
+
 -- the array with its first i words read; w is the next one
 pub read-more : (l a : List ℕ) (i w : ℕ) → take i a ≡ wordsIn i l → i < length a → w ≡ wordAt (drop (2 * i) l) 0
     → take (i + 1) (set a i w) ≡ wordsIn (i + 1) l

@@ -1,10 +1,10 @@
 -- A stretch of a buffer written: what stood before it, the stretch, what stood after it.
 use mathlib.Core.Path.{_≡_, refl, sym, ap, _∙_}
 use mathlib.Core.List.{List, [], _∷_, _++_, append-assoc, append-nil}
-use Prim.Native.Nat.{ℕ, suc, _+_, _-_, _*_, _≤_, _<_}
+use Prim.Native.Nat.{ℕ, zero, suc, _+_, _-_, _*_, _/_, _%_, _≤_, _<_}
 use native.Mathlib.Omega.{arith}
 use native.Mathlib.Numerals.{add-one}
-use lib.ListN.{length, getD, take, drop, length-append, length-drop, take-append-drop, drop-of-length-le}
+use lib.ListN.{length, getD, take, drop, set, length-append, length-drop, take-append-drop, drop-of-length-le}
 use lib.Seq.{take-at, drop-at, drop-drop, drop-length, take-suc, take-all, length-take-le}
 use borrow.Author.Tests.{lt-ltb, le-ltb}
 use Rattle.flash.specs.Bytes.{u16le}
@@ -63,13 +63,23 @@ pub no-words : (at : ℕ) (ws l : List ℕ) → l ≡ wordsTo at ws l 0
 unfolding wordBytes
 no-words at ws l = let e : at + 2 * 0 ≡ at = omega arith in rw (e, append-nil) (sym (take-append-drop at l))
 
-pub word-more : (at : ℕ) (ws l : List ℕ) (i : ℕ) → i < length ws → at + 2 * i + 2 ≤ length l
-    → laidAt (at + 2 * i) (u16le (getD ws i 0)) (wordsTo at ws l i) ≡ wordsTo at ws l (i + 1)
-word-more at ws l i h k =
+-- two bytes set
+set-two : (k a b : ℕ) (l : List ℕ) → k + 2 ≤ length l → set (set l k a) (k + 1) b ≡ laidAt k (a ∷ b ∷ []) l
+unfolding laidAt overlay
+set-two k a b [] h = absurd (omega arith)
+set-two k a b (x ∷ []) h = absurd (omega arith)
+set-two zero a b (x ∷ y ∷ l) h = rw (le-ltb (length (x ∷ y ∷ l)) 2 (omega arith), overlay)
+set-two (suc k) a b (x ∷ y ∷ l) h =
+    let e : suc k + 1 ≡ suc (k + 1) = omega arith in rw e (ap (λ (t : List ℕ). x ∷ t) (set-two k a b (y ∷ l) (omega arith)))
+
+pub word-more : (at : ℕ) (ws l : List ℕ) (i : ℕ) → i < length ws → at + 2 * i + 2 ≤ length l → length (wordsTo at ws l i) ≡ length l
+    → set (set (wordsTo at ws l i) (at + 2 * i) (getD ws i 0 % 256)) (at + 2 * i + 1) (getD ws i 0 / 256) ≡ wordsTo at ws l (i + 1)
+word-more at ws l i h k same =
     let n : length (take at l ++ wordBytes (take i ws)) ≡ at + 2 * i =
     rw (length-append, length-word-bytes, length-take-le at l (omega arith), length-take-le i ws (omega arith)) in
     let e : at + 2 * i + 2 ≡ at + 2 * (i + 1) = omega arith in
-    laid-next (at + 2 * i) (take at l ++ wordBytes (take i ws)) (u16le (getD ws i 0)) l n k
+    set-two (at + 2 * i) (getD ws i 0 % 256) (getD ws i 0 / 256) (wordsTo at ws l i) (omega (arith, same))
+    ∙ laid-next (at + 2 * i) (take at l ++ wordBytes (take i ws)) (u16le (getD ws i 0)) l n k
     ∙ rw (e, add-one, take-suc ws i 0 h, next-word-bytes) (ap (λ (t : List ℕ). t ++ drop (at + 2 * suc i) l)
     (append-assoc (take at l) (wordBytes (take i ws)) (u16le (getD ws i 0))))
 

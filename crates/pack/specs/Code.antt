@@ -25,12 +25,12 @@ numbersInto n b =
     laidAt cursorAt (cursorBytes (n .cursor))
     (laidAt planAt (planBytes (n .job)) (laidAt jobAt (n .job .wipe) (laidAt 0 (headBytes (assemble n [] [] [])) b)))
 
--- the record that a step leaves in a buffer, with another frame that is copied; and over the buffer's own
-abbrev pub loadedIn : Stepped → List ℕ → List ℕ → Record
-loadedIn s unit b = leaves s (recordIn b .places) unit (recordIn b .frame)
+-- the record that a step leaves in a buffer, with other places and another frame that is copied; and over the buffer's own
+abbrev pub loadedIn : Stepped → List ℕ → List ℕ → List ℕ → Record
+loadedIn s places unit b = leaves s places unit (recordIn b .frame)
 
 abbrev pub leftIn : Stepped → List ℕ → Record
-leftIn s b = loadedIn s (recordIn b .unit) b
+leftIn s b = loadedIn s (recordIn b .places) (recordIn b .unit) b
 
 -- a buffer of a record's size reads as this record after the call
 abbrev pub ReadsAs : List ℕ → List ℕ → Record → Type 0

@@ -5,6 +5,7 @@ ghost use Rattle.pack.specs.Code.{numbersInto, loadedIn, leftIn, Holds};
 use crate::cursor_bytes;
 use crate::head_bytes;
 use crate::lay_at;
+use crate::lay_words;
 use crate::plan_bytes;
 use frame::BUFFER_LEN;
 use job::records::Numbers;
@@ -45,20 +46,21 @@ pub fn write_step(s: Stepped, bytes: &mut [u8])
     }
     let next = s.next;
     if s.ended {
-        clear(bytes);
+        clear(&mut bytes[lent::UNIT_AT..]);
         lay_numbers(next, bytes);
         return;
     }
     lay_numbers(next, bytes);
 }
 
-// The same with another frame that is copied.
-pub fn write_loaded(s: Stepped, unit: &[u8; BUFFER_LEN], bytes: &mut [u8])
-    ensures { λ r. ⌜ Holds (loadedIn s (now (unit .entry)) (now (bytes .entry))) (now (bytes .entry)) (now (bytes .exit)) ⌝ }
+// The same with other places and another frame that is copied.
+pub fn write_loaded(s: Stepped, places: &[u16; 256], unit: &[u8; BUFFER_LEN], bytes: &mut [u8])
+    ensures { λ r. ⌜ Holds (loadedIn s (now (places .entry)) (now (unit .entry)) (now (bytes .entry))) (now (bytes .entry)) (now (bytes .exit)) ⌝ }
 {
     if bytes.len() != lent::RECORD_SIZE {
         return;
     }
+    lay_words(bytes, lent::PLACES_AT, places);
     lay_at(bytes, lent::UNIT_AT, unit);
     write_step(s, bytes);
 }

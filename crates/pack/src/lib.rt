@@ -162,7 +162,7 @@ fn lay_at(bytes: &mut [u8], at: usize, source: &[u8])
     wire::lay(&mut bytes[at..], source);
 }
 
-// Lays words over the bytes from a place on.
+// Lays words over the bytes from a place on. A step of C's may write a record's places, so this loop tests nothing but its end.
 fn lay_words(bytes: &mut [u8], at: usize, words: &[u16])
     requires { ⌜ at + 2 * length (now words) ≤ length (now bytes) ⌝ }
     ensures { λ r. ⌜ now (bytes .exit) ≡ laidAt at (wordBytes (now (words .entry))) (now (bytes .entry)) ⌝ }
@@ -170,8 +170,8 @@ fn lay_words(bytes: &mut [u8], at: usize, words: &[u16])
     let mut i = 0;
     while i < words.len() {
         let w = words[i];
-        let two = [low(w), high(w)];
-        lay_at(bytes, at + 2 * i, &two);
+        bytes[at + 2 * i] = low(w);
+        bytes[at + 2 * i + 1] = high(w);
         i += 1;
     }
 }

@@ -1,11 +1,13 @@
--- Four numbers are the same, one by one.
-use mathlib.Core.Path.{_≡_, refl, ap₂, _∙_}
+-- Numbers are the same, one by one.
+use mathlib.Core.Path.{_≡_, refl, ap, ap₂, _∙_}
 use mathlib.Core.List.{List, [], _∷_}
 use mathlib.Core.Bool.{Bool, true, false, _&&_}
-use Prim.Native.Nat.{ℕ}
+use Prim.Native.Nat.{ℕ, suc, _≤_, _<_}
 use lib.Dec.{eqb}
-use lib.ListN.{length, getD}
+use lib.ListN.{length, getD, drop, drop-of-length-le}
+use lib.Seq.{drop-cons}
 use Rattle.flash.specs.Bytes.{sameBytes}
+use Rattle.flash.proofs.Blank.{same-is}
 use Rattle.flash.proofs.Cases.{on-test}
 use Rattle.journal.proofs.PerHost.{per-list}
 
@@ -30,3 +32,18 @@ same-four p q m n =
       same-cons (getD p 3 0) (getD q 3 0) [] [],
       and-true (eqb (getD p 3 0) (getD q 3 0)),
     )
+
+-- two lists from place i on
+abbrev pub sameFrom : ℕ → List ℕ → List ℕ → Bool
+sameFrom i p q = sameBytes (drop i p) (drop i q)
+
+pub same-on : (i : ℕ) (p q : List ℕ) → i < length p → i < length q → sameFrom i p q ≡ (eqb (getD p i 0) (getD q i 0) && sameFrom (suc i) p q)
+same-on i p q m n =
+    ap₂ sameBytes (drop-cons p i 0 m) (drop-cons q i 0 n) ∙ same-cons (getD p i 0) (getD q i 0) (drop (suc i) p) (drop (suc i) q)
+
+pub same-long : (p q : List ℕ) → (length p ≡ length q → ⊥) → sameBytes p q ≡ false
+same-long p q n = on-test (sameBytes p q) (λ t. absurd (n (ap length (same-is p q t)))) (λ t. t)
+
+pub same-end : (i : ℕ) (p q : List ℕ) → length p ≤ i → length q ≤ i → sameFrom i p q ≡ true
+unfolding sameBytes
+same-end i p q m n = ap₂ sameBytes (drop-of-length-le p {i = i} m) (drop-of-length-le q {i = i} n)

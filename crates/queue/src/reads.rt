@@ -1,27 +1,27 @@
 // Reads: where a settled value stands in the caller's own image.
 ghost use mathlib.Core.Path.{_≡_};
 ghost use mathlib.Core.List.{[]};
+ghost use mathlib.Core.Bool.{true};
 ghost use Prim.Native.Nat.{_+_, _≤_};
 ghost use lib.ListN.{length, take, drop};
 ghost use denote.Ref.{ptr};
 ghost use Rattle.board.specs.Record as outcome;
+ghost use Rattle.board.specs.Record.{allowed};
 ghost use Rattle.board.specs.Queue.{asking, readOn};
 ghost use Rattle.board.specs.declared.Record.{Record};
 ghost use Rattle.job.specs.Code.{placed};
-ghost use Rattle.queue.specs.Calls.{nothing, noneFor, foundFor, Finds};
-use crate::requests;
-use crate::requests::Ask;
-use crate::requests::Gate;
+ghost use Rattle.queue.specs.Calls.{nothing, placeIn, locatedIn, heardIn, Finds};
+use crate::gate;
+use crate::gate::Gate;
 use board::Phase;
 use board::Record;
 use board::Rest;
 use fetch::Found;
-use frame::Edition;
 use frame::Host;
-use job::records;
+use frame::ObjectId;
 use wire::Answer;
+use wire::Parsed;
 use wire::Refusal;
-use wire::Request;
 
 // A stretch of the image.
 pub struct Stretch {
@@ -46,73 +46,63 @@ fn nothing(why: Refusal) -> Located
     }
 }
 
-// Why a request has no value: any but a read is malformed as one.
-fn none_for(ask: Request) -> Refusal
-    ensures { λ r. ⌜ r ≡ noneFor ask ⌝ }
+// The value of an id by its place: one frame is looked at.
+fn at_place(image: &[u8], blocks: u8, rest: Rest, place: u16, id: ObjectId) -> Located
+    requires { ⌜ allowed blocks (length (now image)) ≡ true ⌝ }
+    ensures { λ r. ⌜ (r ≡ locatedIn blocks (now (image .entry)) rest place id) × (r .at + r .size ≤ length (now (image .entry))) ⌝ }
 {
-    match ask {
-        Request::Read(_) => return Refusal::NoObject,
-        Request::Put(_) => return Refusal::Malformed,
-        Request::Delete(_) => return Refusal::Malformed,
-        Request::Commit => return Refusal::Malformed,
-        Request::Abort => return Refusal::Malformed,
-        Request::Log(_) => return Refusal::Malformed,
-        Request::Convert => return Refusal::Malformed,
+    if !job::same_shape(image.len(), blocks, rest) {
+        return nothing(Refusal::Stale);
+    }
+    if place == 0 {
+        return nothing(Refusal::NoObject);
+    }
+    let size = flash::size_of(blocks, image.len());
+    let block = flash::block_of(image, size, rest.block);
+    let edition = frame::edition_by(rest.edition);
+    match fetch::value_at(block, edition, id, place) {
+        Found::Nothing => return nothing(Refusal::Stale),
+        Found::At(at, n) => {
+            return Located {
+                answer: Answer::Done,
+                at: rest.block as usize * size + at,
+                size: n as usize,
+            };
+        }
     }
 }
 
-// The value that a read asks for, by its place in a block.
-fn value_for(block: &[u8], edition: Edition, places: &[u16; 256], ask: Request) -> Found
-    ensures { λ r. ⌜ r ≡ foundFor edition (now (block .entry)) (now (places .entry)) ask ⌝ }
+// A message of a read's kind, with the place of the id in it.
+pub fn hear(image: &[u8], blocks: u8, rest: Rest, place: u16, message: &[u8]) -> Located
+    requires { ⌜ allowed blocks (length (now image)) ≡ true ⌝ }
+    ensures { λ r. ⌜ (r ≡ heardIn blocks (now (image .entry)) rest place (now (message .entry))) × (r .at + r .size ≤ length (now (image .entry))) ⌝ }
 {
-    match ask {
-        Request::Read(id) => return fetch::value_at(
-            block,
-            edition,
-            id,
-            serving::place_of(places, id),
-        ),
-        Request::Put(_) => return Found::Nothing,
-        Request::Delete(_) => return Found::Nothing,
-        Request::Commit => return Found::Nothing,
-        Request::Abort => return Found::Nothing,
-        Request::Log(_) => return Found::Nothing,
-        Request::Convert => return Found::Nothing,
+    match wire::parse(message) {
+        Parsed::Malformed => return nothing(Refusal::Malformed),
+        Parsed::Is(_) => return at_place(image, blocks, rest, place, wire::id_in(message)),
     }
 }
 
-// A read by where the record stands: its answer and its stretch in one look. A message that is no read is malformed.
+// A read by where the record stands and the place of the id asked: its answer and its stretch. A message of another kind is malformed.
 pub fn find(
     image: &[u8],
     blocks: u8,
     phase: Phase,
     rest: Rest,
+    place: u16,
     host: Host,
     message: &[u8],
 ) -> Located
-    ensures { λ r. ⌜ ((b : Record) → Finds (asking blocks (now (image .entry)) (placed phase rest b) host (now (message .entry)) []) r) ⌝ }
+    ensures { λ r. ⌜ ((b : Record) → place ≡ placeIn (b .places) (now (message .entry))
+        → Finds (asking blocks (now (image .entry)) (placed phase rest b) host (now (message .entry)) []) r) ⌝ }
 {
-    match requests::check(image, blocks, phase, rest, host) {
+    match gate::check(image.len(), blocks, phase, host) {
         Gate::Shut(why) => return nothing(why),
         Gate::Open => {
-            let size = flash::size_of(blocks, image.len());
-            let mut places = records::no_places();
-            let block = flash::block_of(image, size, rest.block);
-            let s = survey::survey_block(block, &mut places);
-            let edition = s.edition;
-            match requests::hear(size, rest, s, message) {
-                Ask::Refused(why) => return nothing(why),
-                Ask::Serve(ask) => match value_for(block, edition, &places, ask) {
-                    Found::Nothing => return nothing(none_for(ask)),
-                    Found::At(at, n) => {
-                        return Located {
-                            answer: Answer::Done,
-                            at: rest.block as usize * size + at,
-                            size: n as usize,
-                        };
-                    }
-                },
+            if !wire::is_read_kind(message) {
+                return nothing(Refusal::Malformed);
             }
+            return hear(image, blocks, rest, place, message);
         }
     }
 }
@@ -124,7 +114,9 @@ pub fn locate(image: &[u8], blocks: u8, board: Record, host: Host, message: &[u8
 {
     let phase = board.phase;
     let rest = board.rest;
-    let found = find(image, blocks, phase, rest, host, message);
+    let places = board.places;
+    let place = serving::place_of(&places, wire::id_in(message));
+    let found = find(image, blocks, phase, rest, place, host, message);
     Stretch {
         at: found.at,
         size: found.size,

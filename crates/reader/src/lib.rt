@@ -7,11 +7,13 @@ ghost use Rattle.flash.specs.Bytes.{le16};
 ghost use Rattle.frame.specs.Frame.{putLen, deleteLen, endLen, settledLen, closedLen, resetLen, ClosedLength, idOf, checkLen};
 ghost use mathlib.Core.Bool.{true};
 ghost use Rattle.frame.specs.Code.{headOf, peekAt, readOf};
-ghost use Rattle.frame.specs.Reader.{hasLength, onlySettled, layoutOf, decode, readLaid, readFrame};
+ghost use Rattle.frame.specs.Reader.{hasLength, layoutOf, decode, readLaid, readFrame};
 ghost use Rattle.frame.specs.Reader.{slot, changeLayout, endLayout, settledLayout, closedLayout, resetLayout, hostLayout, sealSlots, laid, lastKind};
 ghost use Rattle.reader.specs.Misfits.{firstMisfit, oneMisfit, misfitFrom, frontMisfit, secondMisfit};
 
+mod lengths;
 mod torn;
+mod whole;
 
 use crc::crc32;
 use flash::byte_at;
@@ -36,8 +38,11 @@ use frame::SETTLED_LEN;
 use frame::SETTLED_VALUE_AT;
 use frame::VALUE_MAX;
 use frame::check_len;
+use lengths::has_length;
+use lengths::only_settled;
 use torn::being_closed;
 use torn::never_cut;
+use whole::is_whole;
 
 // The other offsets in a frame: high bytes, and the id of a put or a delete.
 const LENGTH_HIGH: usize = 1;
@@ -267,46 +272,6 @@ fn host_misfit(t: &[u8], edition: Edition, n: u8) -> Misfit
     change_misfit(t, edition, n)
 }
 
-// Some frame that may stand has n bytes.
-fn has_length(edition: Edition, next: usize, n: u8) -> bool
-    ensures { λ r. ⌜ r ≡ hasLength edition next n ⌝ }
-{
-    let check = check_len(edition);
-    if n == RESET_LEN + check {
-        return true;
-    }
-    if n == END_LEN + check {
-        return true;
-    }
-    if PUT_LEN + check <= n {
-        return n as usize <= MAX_PUT + check as usize;
-    }
-    if ID_MAX < next {
-        return false;
-    }
-    n == SETTLED_LEN + check
-}
-
-// The bytes can only be a settled frame's.
-fn only_settled(edition: Edition, next: usize, n: u8, k: u8) -> bool
-    ensures { λ r. ⌜ r ≡ onlySettled edition next n k ⌝ }
-{
-    let check = check_len(edition);
-    if ID_MAX < next {
-        return false;
-    }
-    if n < SETTLED_LEN + check {
-        return false;
-    }
-    if MAX_SETTLED + (check as usize) < n as usize {
-        return false;
-    }
-    if k == 5 {
-        return true;
-    }
-    n == SETTLED_LEN + check
-}
-
 // The first byte that does not fit the layout of n and k.
 fn layout_misfit(t: &[u8], edition: Edition, next: usize, n: u8, k: u8) -> Misfit
     requires { ⌜ (n ≡ getD (now t) 0 0) × (hasLength edition next n ≡ true) × (n ≤ length (now t)) ⌝ }
@@ -371,7 +336,11 @@ fn read_front(t: &[u8], edition: Edition, next: usize) -> FrameRead
 pub fn read_frame(block: &[u8], edition: Edition, at: usize, next: usize) -> FrameRead
     ensures { λ r. ⌜ r ≡ readOf (readFrame edition next at (drop at (now (block .entry)))) ⌝ }
 {
-    match read_front(rest(block, at), edition, next) {
+    let t = rest(block, at);
+    if is_whole(t, edition, next) {
+        return FrameRead::Whole(head_at(t, edition, byte_at(t, KIND_AT), byte_at(t, 0)));
+    }
+    match read_front(t, edition, next) {
         FrameRead::Blank => FrameRead::Blank,
         FrameRead::Whole(h) => FrameRead::Whole(h),
         FrameRead::Torn(n) => FrameRead::Torn(n),

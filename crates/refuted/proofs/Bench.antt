@@ -17,11 +17,11 @@ use Rattle.wire.specs.declared.Answer.the-variants.{Done}
 use Rattle.board.specs.Record.{allowed, rest, counting, idle, noPlaces, noFrame}
 use Rattle.board.specs.Step.{enterAppend, enterDrop, enterCopy, enterOpen, enterClose, enterWipe, advance, stepBusy, stepOn}
 use Rattle.board.specs.Mount.{mountAt, mountFound, mountOn, formatOrder, formatOn}
-use Rattle.board.specs.Queue.{fitsRecord, held, append, serveChange, serveEnd, serveLog, serve, requestOn}
+use Rattle.board.specs.Queue.{fitsRecord, held, append, serveChange, serveEnd, serveLog, serve, requestOn, readAt, readPlace}
 use Rattle.board.specs.Exec.{exec}
 use Rattle.refuted.specs.Rows.{Ran, drive, returned, ask, asked, cutIn, mounted, replayed, timed, part, rowA, rowB, rowC, rowD, rowE, rowF}
 use Rattle.refuted.specs.Rows.{rowG, rowH, stores, rowI, rowK, rowLDelete, rowL, rowM, three, rowALong, rowO, commitMessage, putMessage, deleteMessage}
-use Rattle.refuted.specs.Rows.{formatAnswer, Rows}
+use Rattle.refuted.specs.Rows.{formatAnswer, Rows, at, threePuts, threeSettled}
 
 -- ---- rows i to m in stages, each computed from where the last ended
 
@@ -50,31 +50,31 @@ newHalf fs = blankHalf ++ halfOf 2 (moved ++ fs)
 
 -- a call's steps and what they leave
 abbrev afterI : ℕ → Ran
-afterI n = record { steps = n; image = oldHalf; board = idle (rest 2 511 0 250 1); answer = Done }
+afterI n = record { steps = n; image = oldHalf; board = idle threePuts (rest 2 511 0 250 1); answer = Done }
 
 abbrev afterDelete : Ran
 afterDelete =
     record {
       steps = 232;
       image = newHalf (deleted ∷ []);
-      board = idle (counting (rest 2 511 1 237 1) (8 ∷ 0 ∷ 0 ∷ 0 ∷ []));
+      board = idle threeSettled (counting (rest 2 511 1 237 1) (8 ∷ 0 ∷ 0 ∷ 0 ∷ []));
       answer = Done;
     }
 
 abbrev afterCommit : Ran
-afterCommit = record { steps = 6; image = newHalf (deleted ∷ commit (hostOf 0) ∷ []); board = idle (rest 2 511 1 243 1); answer = Done }
+afterCommit = record { steps = 6; image = newHalf (deleted ∷ commit (hostOf 0) ∷ []); board = idle (at 1 0 threeSettled) (rest 2 511 1 243 1); answer = Done }
 
 abbrev afterL : Ran
 afterL =
     record {
       steps = 8;
       image = newHalf (deleted ∷ commit (hostOf 0) ∷ change (hostOf 0) (put (idOf 4) []) ∷ []);
-      board = idle (counting (rest 2 511 1 251 1) (8 ∷ 0 ∷ 0 ∷ 0 ∷ []));
+      board = idle (at 1 0 threeSettled) (counting (rest 2 511 1 251 1) (8 ∷ 0 ∷ 0 ∷ 0 ∷ []));
       answer = Done;
     }
 
 abbrev afterM : Ran
-afterM = record { steps = 1; image = newHalf []; board = idle (rest 2 511 1 229 1); answer = Done }
+afterM = record { steps = 1; image = newHalf []; board = idle threeSettled (rest 2 511 1 229 1); answer = Done }
 
 record Stages : Type 0 where
   i-is : rowI (exec 2) 64 ≡ afterI 6
@@ -90,7 +90,7 @@ unfolding numbersFrom sizeIn allowed drive returned ask asked cutIn mounted rowA
     encodeAll total hostLayout layoutOf match readFrame scan insert remove lookup changeAll listOf without isOpen replayFrom editionIn headerFault blockState
     changing noRoom hostFull sited placesFrom sinceFrom valueAt nextSettled nextPending nextLoad parse noPlaces noFrame enterAppend enterDrop enterCopy
     enterOpen enterClose enterWipe advance stepBusy stepOn mountAt mountFound mountOn formatOrder formatOn fitsRecord held append serveChange serveEnd
-    serveLog serve requestOn halfOf blankHalf
+    serveLog serve readAt readPlace requestOn halfOf blankHalf
 stages =
     record {
       i-is = refl;
@@ -133,7 +133,7 @@ unfolding numbersFrom sizeIn allowed drive returned ask asked cutIn mounted repl
     match readFrame scan insert remove lookup changeAll listOf without isOpen replayFrom editionIn headerFault blockState changing noRoom hostFull sited
     placesFrom sinceFrom valueAt nextSettled nextPending nextLoad parse noPlaces noFrame enterAppend enterDrop enterCopy enterOpen enterClose enterWipe
     advance stepBusy stepOn mountAt mountFound mountOn formatOrder formatOn halfOf blankHalf fitsRecord held append serveChange serveEnd serveLog serve
-    requestOn
+    readAt readPlace requestOn
 rows =
     record {
       a-steps = refl;

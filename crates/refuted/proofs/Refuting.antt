@@ -24,9 +24,9 @@ use Rattle.board.specs.declared.Record.{Record}
 use Rattle.board.specs.Record.{allowed, noPlaces, noFrame, unmounted, rest, counting, idle, cursor, inStage}
 use Rattle.board.specs.Step.{advance, enterAppend, enterOpen, enterClose, enterWipe, stepBusy, stepOn}
 use Rattle.board.specs.Mount.{mountAt, mountFound, mountOn, formatOrder, formatOn}
-use Rattle.board.specs.Queue.{fitsRecord, held, serve, requestOn}
+use Rattle.board.specs.Queue.{fitsRecord, held, serve, requestOn, serveEnd}
 use Rattle.board.specs.Table.{Exactly, Misplaced, linesOf}
-use Rattle.board.specs.Demand1.{Declared, Rests, EndsWithin}
+use Rattle.board.specs.Demand1.{Declared, EndsWithin}
 use Rattle.board.specs.Exec.{Call, request, step, mount, format, Machine, exec}
 use Rattle.board.specs.Claim.{call}
 use Rattle.board.specs.Promise.{Promise, Kept, Shown, trace, ByteEvents, PromiseDetermines, PromiseDeterminesFrom}
@@ -34,12 +34,14 @@ use Rattle.refuted.specs.Wrong.{Wrongly, onBench, offBench, outsideIsDon
 use Rattle.refuted.specs.WrongShares.{takesAnyCounts}
 use Rattle.refuted.specs.WrongEditions.{takesAnyEdition}
 use Rattle.refuted.specs.Refuted.{RightOnBench, Refuted}
-use Rattle.refuted.specs.WrongRuns.{nothing, lastFrom, allBytes, bytesIn, begins, Differs, answered, half, blankHalf, stored, reads}
+use Rattle.refuted.specs.WrongRuns.{nothing, lastFrom, allBytes, bytesIn, begins, Differs, Forged, answered, half, blankHalf, stored, commits}
+use Rattle.refuted.specs.PlaceRuns.{placed, misdated}
 use Rattle.board.proofs.Determining.{promise-determines, promise-determines-from}
 use Rattle.board.proofs.FollowingPlans.{promise}
 use Rattle.refuted.proofs.RefutingRuns.{runs}
 use Rattle.refuted.proofs.RefutingEditions.{edition-runs}
 use Rattle.refuted.proofs.RefutingMends.{mend-runs}
+use Rattle.refuted.proofs.RefutingPlaces.{place-runs}
 
 pub bytes-all : (l : List ℕ) → allBytes l ≡ true → Bytes l
 bytes-all [] e = tt
@@ -144,43 +146,31 @@ stuck-declared = record { last = omega arith; wipes = omega arith; append = omeg
 forged-waits : Kept (offBench forgedWaits) → ⊥
 forged-waits p = never-ends 65536 (p 2 .calls .ends long stuck stuck-declared)
 
+-- a forged record, by what the call on it is answered
+forged : {w : Wrongly} {r : Record} {c : Call} {a b : ℕ} → Forged w r c a b → Kept (offBench w) → ⊥
+unfolding PromiseDeterminesFrom
+forged {w} {r} {c} {a} {b} t p =
+    let same : trace 2 (offBench w 2) stored r (call c ∷ []) ≡ trace 2 (exec 2) stored r (call c ∷ []) =
+    promise-determines-from 2 (offBench w 2) (exec 2) (p 2) promise stored r (call c ∷ [])
+    (bytes-all stored (and-left (allBytes stored) (bytesIn (c ∷ [])) (t .is-bytes))) (t .rests)
+    (bytes-in (c ∷ []) (and-right (allBytes stored) (bytesIn (c ∷ [])) (t .is-bytes))) in
+    eqb-false a b (t .apart) (sym (t .shows-wrong) ∙ ap (λ (xs : List Shown). answered (lastFrom nothing xs)) same ∙ t .shows-right)
+
 -- host 0's bytes are said to be 1 where nothing is pending
 abbrev miscounted : Record
-miscounted = idle (counting (rest 2 767 0 32 1) (1 ∷ 0 ∷ 0 ∷ 0 ∷ []))
+miscounted = idle placed (counting (rest 2 767 0 32 1) (1 ∷ 0 ∷ 0 ∷ 0 ∷ []))
 
-abbrev seenOf : List Shown → ℕ
-seenOf xs = answered (lastFrom nothing xs)
-
--- a read on a record that is forged so: the wrong store takes it, the machine says 11
-record Taken (w : Wrongly) (r : Record) : Type 0 where
-  is-bytes : allBytes stored ≡ true
-  rests : Rests (r .phase)
-  taken : seenOf (trace 2 (offBench w 2) stored r (call reads ∷ [])) ≡ 0
-  stale : seenOf (trace 2 (exec 2) stored r (call reads ∷ [])) ≡ 11
-
-takes-it : {w : Wrongly} {r : Record} → Taken w r → Kept (offBench w) → ⊥
-unfolding PromiseDeterminesFrom
-takes-it {w} {r} t p =
-    let same : trace 2 (offBench w 2) stored r (call reads ∷ []) ≡ trace 2 (exec 2) stored r (call reads ∷ []) =
-    promise-determines-from 2 (offBench w 2) (exec 2) (p 2) promise stored r (call reads ∷ [])
-    (bytes-all stored (t .is-bytes)) (t .rests) (bytes-in (reads ∷ []) refl) in
-    eqb-false 0 11 refl (sym (t .taken) ∙ ap seenOf same ∙ t .stale)
-
-any-counts : Taken takesAnyCounts miscounted
+any-counts : Forged takesAnyCounts miscounted commits 0 11
 unfolding takesAnyCounts numbersFrom sizeIn allowed allFF sameBytes encodeAll total hostLayout layoutOf match readFrame scan insert lookup changeAll listOf
-    without isOpen replayFrom editionIn headerFault blockState placesFrom valueAt sited parse fitsRecord held serve requestOn noPlaces noFrame half blankHalf
-    stored
-any-counts = record { is-bytes = refl; rests = tt; taken = refl; stale = refl }
+    without isOpen replayFrom editionIn headerFault blockState placesFrom valueAt sited parse fitsRecord held serveEnd serve requestOn noPlaces noFrame half
+    blankHalf stored
+any-counts = record { is-bytes = refl; rests = tt; shows-wrong = refl; shows-right = refl; apart = refl }
 
--- its edition is said to be 2 where it is 1
-abbrev misdated : Record
-misdated = idle (rest 2 767 0 32 2)
-
-any-edition : Taken takesAnyEdition misdated
+any-edition : Forged takesAnyEdition misdated commits 0 11
 unfolding takesAnyEdition numbersFrom sizeIn allowed allFF sameBytes encodeAll total hostLayout layoutOf match readFrame scan insert lookup changeAll listOf
-    without isOpen replayFrom editionIn headerFault blockState placesFrom valueAt sited parse fitsRecord held serve requestOn noPlaces noFrame half blankHalf
-    stored
-any-edition = record { is-bytes = refl; rests = tt; taken = refl; stale = refl }
+    without isOpen replayFrom editionIn headerFault blockState placesFrom valueAt sited parse fitsRecord held serveEnd serve requestOn noPlaces noFrame half
+    blankHalf stored
+any-edition = record { is-bytes = refl; rests = tt; shows-wrong = refl; shows-right = refl; apart = refl }
 
 pub refuted : Refuted
 refuted =
@@ -232,7 +222,7 @@ refuted =
       abort-keeps = differs (runs .abort-keeps);
       transfer-clears = differs (runs .transfer-clears);
       mount-keeps = differs (runs .mount-keeps);
-      takes-any-counts = takes-it any-counts;
+      takes-any-counts = forged any-counts;
       pending-alone = differs (edition-runs .pending-alone);
       pending-in-first = differs (edition-runs .pending-in-first);
       room-before-pending = differs (edition-runs .room-before-pending);
@@ -248,7 +238,7 @@ refuted =
       second-foreign = differs (edition-runs .second-foreign);
       later-edition = differs (edition-runs .later-edition);
       record-keeps = differs (edition-runs .record-keeps);
-      takes-any-edition = takes-it any-edition;
+      takes-any-edition = forged any-edition;
       crc-of-body = differs (edition-runs .crc-of-body);
       crc-big-endian = differs (edition-runs .crc-big-endian);
       ignores-crc = differs (edition-runs .ignores-crc);
@@ -285,4 +275,18 @@ refuted =
       past-reset = differs (mend-runs .past-reset);
       room-with-closed = differs (mend-runs .room-with-closed);
       logs-closed = differs (mend-runs .logs-closed);
+      places-stay = differs (place-runs .places-stay);
+      convert-stays = differs (place-runs .convert-stays);
+      put-stays = differs (place-runs .put-stays);
+      delete-stays = differs (place-runs .delete-stays);
+      abort-places = differs (place-runs .abort-places);
+      places-others = differs (place-runs .places-others);
+      mount-places = differs (place-runs .mount-places);
+      trusts-place = forged (place-runs .trusts-place);
+      reads-any-length = forged (place-runs .reads-any-length);
+      reads-afresh = forged (place-runs .reads-afresh);
+      stale-first = forged (place-runs .stale-first);
+      none-first = forged (place-runs .none-first);
+      reads-by-header = forged (place-runs .reads-by-header);
+      skips-places = forged (place-runs .skips-places);
     }

@@ -29,7 +29,7 @@ use Rattle.board.specs.declared.Record.{Record}
 use Rattle.board.specs.Record.{allowed, unmounted, Out, noPlaces, noFrame}
 use Rattle.board.specs.Step.{enterAppend, enterDrop, enterCopy, enterOpen, enterClose, enterWipe, advance, stepBusy, stepOn}
 use Rattle.board.specs.Mount.{mountAt, mountFound, mountOn, formatOrder, formatOn}
-use Rattle.board.specs.Queue.{fitsRecord, held, append, serveChange, serveEnd, serveLog, serve, requestOn}
+use Rattle.board.specs.Queue.{fitsRecord, held, append, serveChange, serveEnd, serveLog, serve, requestOn, readAt, readPlace}
 use Rattle.board.specs.Exec.{step, mount, format, Machine}
 use Rattle.board.specs.Plan.{Follows}
 use Rattle.board.specs.Table.{isBusy}
@@ -38,7 +38,7 @@ use Rattle.board.specs.Claim.{call, Run, Track, tracked, track, AgreesIn, Finis
 use Rattle.board.specs.CutFormat.{Empty, Leaves, old-objects, still-none, no-store, empty-store, CutFormat}
 use Rattle.board.specs.Demand2.{UsableFrom}
 use Rattle.refuted.specs.Wrong.{offBench, waitsLong, formatsBlindly, erasesOne}
-use Rattle.refuted.specs.WrongRuns.{allBytes, half, blankHalf, begun, begunTwice, putEmpty, reads}
+use Rattle.refuted.specs.WrongRuns.{allBytes, half, blankHalf, begun, begunTwice, putEmpty, commits}
 use Rattle.refuted.specs.Seen.{Seen}
 use Rattle.refuted.proofs.Refuting.{bytes-all, bytes-in}
 use Rattle.refuted.proofs.RefutingCut.{img, empty, claimed-of, refuses-half-erased}
@@ -46,6 +46,7 @@ use Rattle.refuted.proofs.RefutingOlder.{takes-half-erased}
 use Rattle.refuted.proofs.RefutingShares.{full-by-image}
 use Rattle.refuted.proofs.RefutingConverts.{drops-first, torn-foreign}
 use Rattle.refuted.proofs.RefutingTorn.{finish-first, closes-alone, high-first, end-stays}
+use Rattle.refuted.proofs.RefutingPlaced.{places-stay, delete-stays}
 
 -- ---- a request of S + 1 steps
 
@@ -89,7 +90,7 @@ late-put : Late
 unfolding numbersFrom sizeIn allowed waitsLong allFF sameBytes applyAll writes encodeAll total hostLayout layoutOf match readFrame scan insert
     remove lookup changeAll listOf without isOpen replayFrom editionIn headerFault blockState noRoom hostFull sited placesFrom sinceFrom valueAt nextSettled
     nextPending nextLoad parse noPlaces noFrame enterAppend enterDrop enterCopy enterOpen enterClose enterWipe advance stepBusy stepOn
-    fitsRecord held append serveChange serve requestOn half blankHalf
+    fitsRecord held append serveChange serve readAt readPlace requestOn half blankHalf
 late-put = record { more = refl; phase = refl; size = refl; busy = refl }
 
 waits-long : Claim 2 late → ⊥
@@ -158,19 +159,19 @@ mounted = sparing begunTwice unmounted mount .board
 record Sparing : Type 0 where
   is-bytes : allBytes begunTwice ≡ true
   allowed-length : allowed 3 (length begunTwice) ≡ true
-  stale : numberOf (sparing (sparing begunTwice mounted step .image) (sparing begunTwice mounted step .board) reads .answer) ≡ some 11
+  stale : numberOf (sparing (sparing begunTwice mounted step .image) (sparing begunTwice mounted step .board) commits .answer) ≡ some 11
 
 sparing-done : Sparing
 unfolding numbersFrom sizeIn allowed erasesOne allFF sameBytes applyAll writes encodeAll total hostLayout layoutOf match readFrame scan insert remove lookup
     changeAll listOf without isOpen replayFrom editionIn headerFault blockState changing noRoom hostFull sited placesFrom sinceFrom valueAt nextSettled
     nextPending nextLoad parse noPlaces noFrame enterAppend enterDrop enterCopy enterOpen enterClose enterWipe advance stepBusy stepOn mountAt mountFound
-    mountOn fitsRecord held append serveChange serveEnd serveLog serve requestOn half blankHalf begun begunTwice
+    mountOn fitsRecord held append serveChange serveEnd serveLog serve readAt readPlace requestOn half blankHalf begun begunTwice
 sparing-done = record { is-bytes = refl; allowed-length = refl; stale = refl }
 
 erases-one : UsableFrom 3 sparing → ⊥
 erases-one p =
-    let y = p .from-mount begunTwice unmounted firstBook (call step ∷ call reads ∷ []) (bytes-all begunTwice (sparing-done .is-bytes))
-    (sparing-done .allowed-length) (tt, (bytes-in (reads ∷ []) refl .0, tt)) in
+    let y = p .from-mount begunTwice unmounted firstBook (call step ∷ call commits ∷ []) (bytes-all begunTwice (sparing-done .is-bytes))
+    (sparing-done .allowed-length) (tt, (bytes-in (commits ∷ []) refl .0, tt)) in
     y .1 .0 (sparing-done .stale)
 
 pub seen : Seen
@@ -185,6 +186,8 @@ seen =
       finish-first = finish-first;
       closes-alone = closes-alone;
       high-first = high-first;
+      places-stay = places-stay;
+      delete-stays = delete-stays;
       formats-blindly = formats-blindly;
       erases-one = erases-one;
       end-stays = end-stays;

@@ -4,7 +4,7 @@ use mathlib.Core.List.{List, [], _∷_, _++_, map}
 use mathlib.Core.Bool.{false}
 use Prim.Native.Nat.{ℕ}
 use native.Mathlib.Omega.{arith}
-use lib.ListN.{length}
+use lib.ListN.{length, set}
 use Rattle.flash.specs.Bytes.{allFF, sameBytes}
 use Rattle.flash.specs.Flash.{numbersFrom, sizeIn, applyAll, writes, block, sizeOf}
 use Rattle.crc.specs.Crc.{shift32, shifted32, crc32From}
@@ -22,7 +22,7 @@ use Rattle.wire.specs.Message.{parse}
 use Rattle.board.specs.Record.{allowed, unmounted, rest, idle, Out, noPlaces, noFrame}
 use Rattle.board.specs.Step.{enterAppend, enterDrop, enterCopy, enterOpen, enterClose, enterWipe, advance, stepBusy, stepOn}
 use Rattle.board.specs.Mount.{mountAt, mountFound, mountOn, formatOrder, formatOn, replayOf}
-use Rattle.board.specs.Queue.{fitsRecord, held, append, serveChange, serveEnd, convert, serveConvert, serve, requestOn}
+use Rattle.board.specs.Queue.{fitsRecord, held, append, serveChange, serveEnd, convert, serveConvert, serve, requestOn, readAt, readPlace}
 use Rattle.board.specs.Exec.{Call, mount, format, Machine}
 use Rattle.board.specs.Book.{Book, book, nothing, noLists, firstBook, enterCall}
 use Rattle.board.specs.Claim.{Event, call, Run, Track, tracked, track, IdleAgrees, Agrees, begunBy, formatted, Claim}
@@ -53,7 +53,7 @@ abbrev holding : Left
 holding =
     record {
       image = half 1 (change (hostOf 2) (put (idOf 0) []) ∷ commit (hostOf 2) ∷ []) ++ blankHalf;
-      board = idle (rest 2 767 0 30 1);
+      board = idle (set noPlaces 0 16) (rest 2 767 0 30 1);
       book = book os noLists nothing;
     }
 
@@ -68,7 +68,7 @@ abbrev dropped : Left
 dropped =
     record {
       image = blankHalf ++ blockOf edition.Second 384 2 [];
-      board = idle (rest 2 767 1 16 2);
+      board = idle noPlaces (rest 2 767 1 16 2);
       book = book os noLists nothing;
     }
 
@@ -82,7 +82,7 @@ computed : Computed
 unfolding dropsFirst numbersFrom sizeIn allowed allFF sameBytes applyAll writes encodeAll total hostLayout layoutOf match readFrame scan insert remove lookup
     changeAll listOf without isOpen replayFrom editionIn headerFault blockState changing noRoom hostFull sited placesFrom sinceFrom valueAt nextSettled
     nextPending nextLoad parse noPlaces noFrame enterAppend enterDrop enterCopy enterOpen enterClose enterWipe advance stepBusy stepOn mountAt mountFound
-    mountOn formatOrder formatOn fitsRecord held append serveChange serveEnd convert serveConvert serve requestOn half blankHalf
+    mountOn formatOrder formatOn fitsRecord held append serveChange serveEnd convert serveConvert serve readAt readPlace requestOn half blankHalf
 computed = record { formatted-is = refl; holding-is = refl; dropped-is = refl; reads-as = refl }
 
 abbrev after : List Event
@@ -130,9 +130,10 @@ record Torn : Type 0 where
 
 torn-put : Torn
 unfolding tornForeign numbersFrom sizeIn allowed allFF sameBytes applyAll writes shift32 shifted32 crc32From encodeAll total hostLayout layoutOf match
-    readFrame scan insert remove lookup changeAll listOf without isOpen replayFrom editionIn headerFault blockState changing noRoom hostFull sited placesFrom
-    sinceFrom valueAt nextSettled nextPending nextLoad parse noPlaces noFrame enterAppend enterDrop enterCopy enterOpen enterClose enterWipe advance stepBusy
-    stepOn mountAt mountFound mountOn formatOrder formatOn fitsRecord held append serveChange serveEnd convert serveConvert serve requestOn half blankHalf
+    readFrame scan insert remove lookup changeAll listOf without isOpen replayFrom editionIn headerFault blockState changing noRoom hostFull sited
+    placesFrom sinceFrom valueAt nextSettled nextPending nextLoad parse noPlaces noFrame enterAppend enterDrop enterCopy enterOpen enterClose enterWipe
+    advance stepBusy stepOn mountAt mountFound mountOn formatOrder formatOn fitsRecord held append serveChange serveEnd convert serveConvert serve readAt
+    readPlace requestOn half blankHalf
 torn-put = record { formatted-is = refl; refused = refl }
 
 pub torn-foreign : Claim 2 strict → ⊥

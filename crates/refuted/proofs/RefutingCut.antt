@@ -24,7 +24,7 @@ use Rattle.board.specs.declared.Record.{Record}
 use Rattle.board.specs.Record.{allowed, unmounted, Out, out, rest, idle, noPlaces, noFrame}
 use Rattle.board.specs.Step.{enterAppend, enterDrop, enterCopy, enterOpen, enterClose, enterWipe, advance, stepBusy, stepOn}
 use Rattle.board.specs.Mount.{mountAt, mountFound, mountOn, formatOrder, formatOn, tiedTimes}
-use Rattle.board.specs.Queue.{fitsRecord, held, convert, serveConvert, serve, requestOn}
+use Rattle.board.specs.Queue.{fitsRecord, held, convert, serveConvert, serve, requestOn, readAt, readPlace}
 use Rattle.board.specs.Exec.{Call, step, mount, format, Machine}
 use Rattle.board.specs.Book.{Book, nothing, firstBook, enterCall}
 use Rattle.board.specs.Table.{InJob}
@@ -50,7 +50,7 @@ abbrev pub img : List ℕ
 img = replicate 768 0xFF
 
 abbrev pub empty : Out
-empty = out Done (half 1 [] ++ blankHalf) (idle (rest 2 767 0 16 1)) []
+empty = out Done (half 1 [] ++ blankHalf) (idle noPlaces (rest 2 767 0 16 1)) []
 
 allowed-length : allowed 2 (length img) ≡ true
 unfolding allowed sizeIn
@@ -109,7 +109,7 @@ computed : Computed
 unfolding numbersFrom sizeIn allowed refusesHalfErased allFF sameBytes applyAll writes encodeAll total hostLayout layoutOf match readFrame scan insert remove
     lookup changeAll listOf without isOpen replayFrom editionIn headerFault blockState changing noRoom hostFull sited placesFrom sinceFrom valueAt nextSettled
     nextPending nextLoad parse noPlaces noFrame enterAppend enterDrop enterCopy enterOpen enterClose enterWipe advance stepBusy stepOn mountAt mountFound
-    mountOn formatOrder formatOn fitsRecord held convert serveConvert serve requestOn half blankHalf fading
+    mountOn formatOrder formatOn fitsRecord held convert serveConvert serve readAt readPlace requestOn half blankHalf fading
 computed =
     record {
       formatted-is = refl;

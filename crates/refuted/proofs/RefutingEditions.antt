@@ -13,7 +13,7 @@ use Rattle.wire.specs.Message.{parse}
 use Rattle.board.specs.Record.{allowed, noPlaces, noFrame}
 use Rattle.board.specs.Step.{enterAppend, enterDrop, enterCopy, enterOpen, enterClose, enterWipe, advance, stepBusy, stepOn}
 use Rattle.board.specs.Mount.{mountAt, mountFound, mountOn, formatOrder, formatOn}
-use Rattle.board.specs.Queue.{fitsRecord, held, append, serveChange, serveEnd, serveLog, convert, serveConvert, serve, requestOn}
+use Rattle.board.specs.Queue.{fitsRecord, held, append, serveChange, serveEnd, serveLog, convert, serveConvert, serve, requestOn, readAt, readPlace}
 use Rattle.refuted.specs.WrongEditions.{pendingAlone, withReserve, convertsAgain, dropsFirst, fallsBack, formatKeeps, secondForeign, crcOfBody}
 use Rattle.refuted.specs.WrongEditions.{crcBigEndian, ignoresCrc, roomAsBefore, logsByFirst, pendingInFirst, roomBeforePending, anyBody}
 use Rattle.refuted.specs.WrongEditions.{roomByFirst, convertsWorn, mountFallsBack, laterEdition, recordKeeps, tornForeign, fullByFirst}
@@ -25,10 +25,10 @@ pub edition-runs : EditionRuns
 unfolding numbersFrom sizeIn allowed allFF sameBytes applyAll writes shift32 shifted32 crc32From encodeAll total hostLayout layoutOf match readFrame scan
     insert remove lookup changeAll listOf without isOpen replayFrom editionIn headerFault blockState changing noRoom hostFull sited placesFrom sinceFrom
     valueAt nextSettled nextPending nextLoad parse noPlaces noFrame enterAppend enterDrop enterCopy enterOpen enterClose enterWipe advance stepBusy stepOn
-    mountAt mountFound mountOn formatOrder formatOn fitsRecord held append serveChange serveEnd serveLog convert serveConvert serve requestOn half blankHalf
-    stored newEmpty newStored newSpoiled tightHalf objectZero newFull newDue newHeavy pendingAlone withReserve convertsAgain dropsFirst fallsBack formatKeeps
-    secondForeign crcOfBody crcBigEndian ignoresCrc roomAsBefore logsByFirst pendingInFirst roomBeforePending anyBody roomByFirst convertsWorn mountFallsBack
-    laterEdition recordKeeps tornForeign fullByFirst newPending newTorn oldEmpty worn bothEditions manyObjects
+    mountAt mountFound mountOn formatOrder formatOn fitsRecord held append serveChange serveEnd serveLog convert serveConvert serve readAt readPlace
+    requestOn half blankHalf stored newEmpty newStored newSpoiled tightHalf objectZero newFull newDue newHeavy pendingAlone withReserve convertsAgain
+    dropsFirst fallsBack formatKeeps secondForeign crcOfBody crcBigEndian ignoresCrc roomAsBefore logsByFirst pendingInFirst roomBeforePending anyBody
+    roomByFirst convertsWorn mountFallsBack laterEdition recordKeeps tornForeign fullByFirst newPending newTorn oldEmpty worn bothEditions manyObjects
 edition-runs =
     record {
       pending-alone = record { is-run = refl; shows-wrong = refl; shows-right = refl; apart = refl };

@@ -13,7 +13,7 @@ use Rattle.wire.specs.Message.{parse}
 use Rattle.board.specs.Record.{allowed, noPlaces, noFrame}
 use Rattle.board.specs.Step.{enterAppend, enterDrop, enterCopy, enterOpen, enterClose, enterWipe, advance, stepBusy, stepOn}
 use Rattle.board.specs.Mount.{mountAt, mountFound, mountOn}
-use Rattle.board.specs.Queue.{fitsRecord, held, append, serveChange, serveEnd, serveLog, serve, requestOn}
+use Rattle.board.specs.Queue.{fitsRecord, held, append, serveChange, serveEnd, serveLog, serve, requestOn, readAt, readPlace}
 use Rattle.refuted.specs.WrongMends.{movesAlways, movesUndue, movesAtEdge, neverMoves, fitsUnclosed, fitsFive, leavesTorn, wornMends}
 use Rattle.refuted.specs.WrongMends.{closesAndMoves, highFirst, lengthStays, closesAll, clearsBody, finishFirst, closesAlone, alwaysResets}
 use Rattle.refuted.specs.WrongMends.{abortsOne, resetBare, finishesReset, endStays, mendKeeps}
@@ -27,11 +27,11 @@ pub mend-runs : MendRuns
 unfolding numbersFrom sizeIn allowed allFF sameBytes applyAll writes shift32 shifted32 crc32From encodeAll total hostLayout layoutOf match readFrame scan
     insert remove lookup changeAll listOf without isOpen replayFrom editionIn headerFault blockState changing noRoom hostFull sited placesFrom sinceFrom
     valueAt nextSettled nextPending nextLoad parse noPlaces noFrame enterAppend enterDrop enterCopy enterOpen enterClose enterWipe advance stepBusy stepOn
-    mountAt mountFound mountOn fitsRecord held append serveChange serveEnd serveLog serve requestOn half blankHalf pending stored newPending newDue tornCommit
-    tornReset tornPut closingPut sevenTail fiveLeft fourLeft tightTorn undue wornPending twoPending dropped closedLong newClosed movesAlways movesUndue
-    movesAtEdge neverMoves fitsUnclosed fitsFive leavesTorn wornMends closesAndMoves highFirst lengthStays closesAll clearsBody finishFirst closesAlone
-    alwaysResets abortsOne resetBare finishesReset endStays mendKeeps closingForeign resetForeign closesSeven checksBody checksCrc pastReset roomWithClosed
-    logsClosed
+    mountAt mountFound mountOn fitsRecord held append serveChange serveEnd serveLog serve readAt readPlace requestOn half blankHalf pending stored
+    newPending newDue tornCommit tornReset tornPut closingPut sevenTail fiveLeft fourLeft tightTorn undue wornPending twoPending dropped closedLong
+    newClosed movesAlways movesUndue movesAtEdge neverMoves fitsUnclosed fitsFive leavesTorn wornMends closesAndMoves highFirst lengthStays closesAll
+    clearsBody finishFirst closesAlone alwaysResets abortsOne resetBare finishesReset endStays mendKeeps closingForeign resetForeign closesSeven checksBody
+    checksCrc pastReset roomWithClosed logsClosed
 mend-runs =
     record {
       moves-always = record { is-run = refl; shows-wrong = refl; shows-right = refl; apart = refl };

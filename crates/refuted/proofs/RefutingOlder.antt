@@ -23,7 +23,7 @@ use Rattle.board.specs.declared.Record.{Record}
 use Rattle.board.specs.Record.{allowed, unmounted, Out, rest, idle, noPlaces, noFrame}
 use Rattle.board.specs.Step.{enterAppend, enterDrop, enterCopy, enterOpen, enterClose, enterWipe, advance, stepBusy, stepOn}
 use Rattle.board.specs.Mount.{mountAt, mountFound, mountOn, formatOrder, formatOn, replayOf}
-use Rattle.board.specs.Queue.{fitsRecord, held, append, serveChange, serveEnd, serveLog, serve, requestOn}
+use Rattle.board.specs.Queue.{fitsRecord, held, append, serveChange, serveEnd, serveLog, serve, requestOn, readAt, readPlace}
 use Rattle.board.specs.Exec.{Call, step, mount, format, Machine}
 use Rattle.board.specs.Book.{Book, book, nothing, noLists, firstBook, enterCall}
 use Rattle.board.specs.Table.{InJob}
@@ -61,10 +61,10 @@ abbrev first : List Call
 first = putEmpty 7 ∷ stepping 8 (commits ∷ stepping 6 (moving 133 18))
 
 abbrev one : Left
-one = record { image = blankHalf ++ moved 2; board = idle (rest 2 767 1 23 1); book = book os noLists nothing }
+one = record { image = blankHalf ++ moved 2; board = idle (set noPlaces 7 16) (rest 2 767 1 23 1); book = book os noLists nothing }
 
 abbrev two : Left
-two = record { image = moved 3 ++ blankHalf; board = idle (rest 2 767 0 23 1); book = book os noLists nothing }
+two = record { image = moved 3 ++ blankHalf; board = idle (set noPlaces 7 16) (rest 2 767 0 23 1); book = book os noLists nothing }
 
 abbrev torn : ℕ → List Call
 torn n = moving 140 n
@@ -96,7 +96,7 @@ begun : Begun
 unfolding numbersFrom sizeIn allowed takesHalfErased allFF sameBytes applyAll writes encodeAll total hostLayout layoutOf match readFrame scan insert remove
     lookup changeAll listOf without isOpen replayFrom editionIn headerFault blockState changing noRoom hostFull sited placesFrom sinceFrom valueAt nextSettled
     nextPending nextLoad parse noPlaces noFrame enterAppend enterDrop enterCopy enterOpen enterClose enterWipe advance stepBusy stepOn mountAt mountFound
-    mountOn formatOrder formatOn fitsRecord held append serveChange serveEnd serveLog serve requestOn half blankHalf
+    mountOn formatOrder formatOn fitsRecord held append serveChange serveEnd serveLog serve readAt readPlace requestOn half blankHalf
 begun = record { formatted-is = refl; one-is = refl; two-is = refl }
 
 -- up to its last step
@@ -110,20 +110,20 @@ computed : Computed
 unfolding numbersFrom sizeIn allowed takesHalfErased allFF sameBytes applyAll writes encodeAll total hostLayout layoutOf match readFrame scan insert remove
     lookup changeAll listOf without isOpen replayFrom editionIn headerFault blockState changing noRoom hostFull sited placesFrom sinceFrom valueAt nextSettled
     nextPending nextLoad parse noPlaces noFrame enterAppend enterDrop enterCopy enterOpen enterClose enterWipe advance stepBusy stepOn mountAt mountFound
-    mountOn formatOrder formatOn fitsRecord held append serveChange serveEnd serveLog serve requestOn half blankHalf
+    mountOn formatOrder formatOn fitsRecord held append serveChange serveEnd serveLog serve readAt readPlace requestOn half blankHalf
 computed = record { copied-is = refl; erased-is = refl; nothing-under = refl; objects-are = refl }
 
 in-drop : InJob (afterAll 2 m (two .image) (two .board) (two .book) (map call (torn 17)) .board .phase)
 unfolding numbersFrom sizeIn allowed takesHalfErased allFF sameBytes applyAll writes encodeAll total hostLayout layoutOf match readFrame scan insert remove
     lookup changeAll listOf without isOpen replayFrom editionIn headerFault blockState changing noRoom hostFull sited placesFrom sinceFrom valueAt nextSettled
     nextPending nextLoad parse noPlaces noFrame enterAppend enterDrop enterCopy enterOpen enterClose enterWipe advance stepBusy stepOn mountAt mountFound
-    mountOn formatOrder formatOn fitsRecord held append serveChange serveEnd serveLog serve requestOn half blankHalf
+    mountOn formatOrder formatOn fitsRecord held append serveChange serveEnd serveLog serve readAt readPlace requestOn half blankHalf
 in-drop = tt
 
 -- the mount after the cut and its one step leave half 0 alone
 record Mounted : Type 0 where
   image-is : m (mounted copied .image) (mounted copied .board) step .image ≡ fading ++ blankHalf
-  board-is : m (mounted copied .image) (mounted copied .board) step .board ≡ idle (rest 2 767 0 16 1)
+  board-is : m (mounted copied .image) (mounted copied .board) step .board ≡ idle noPlaces (rest 2 767 0 16 1)
   reads-as : blockState (block (sizeOf 2 (fading ++ blankHalf)) 0 (fading ++ blankHalf)) ≡ valid (journal edition.First 2 [] clean)
   size-is : sizeOf 2 copied ≡ 384
 
@@ -131,7 +131,7 @@ taken : Mounted
 unfolding numbersFrom sizeIn allowed takesHalfErased allFF sameBytes applyAll writes encodeAll total hostLayout layoutOf match readFrame scan insert remove
     lookup changeAll listOf without isOpen replayFrom editionIn headerFault blockState changing noRoom hostFull sited placesFrom sinceFrom valueAt nextSettled
     nextPending nextLoad parse noPlaces noFrame enterAppend enterDrop enterCopy enterOpen enterClose enterWipe advance stepBusy stepOn mountAt mountFound
-    mountOn formatOrder formatOn fitsRecord held append serveChange serveEnd serveLog serve requestOn half blankHalf
+    mountOn formatOrder formatOn fitsRecord held append serveChange serveEnd serveLog serve readAt readPlace requestOn half blankHalf
 taken = record { image-is = refl; board-is = refl; reads-as = refl; size-is = refl }
 
 raised : Raised (block (sizeOf 2 copied) 0 copied) fading
@@ -163,7 +163,7 @@ happens =
     )))))
 
 -- half 0 alone doesn't agree with the book
-disagrees : {b : Book} (u : Track) → b .objects ≡ os → IdleAgrees 2 u (fading ++ blankHalf) (idle (rest 2 767 0 16 1)) b → ⊥
+disagrees : {b : Book} (u : Track) → b .objects ≡ os → IdleAgrees 2 u (fading ++ blankHalf) (idle noPlaces (rest 2 767 0 16 1)) b → ⊥
 unfolding replayFrom
 disagrees {b} u e y =
     let v : y .journal ≡ journal edition.First 2 [] clean = same-valid (sym (y .is-valid) ∙ taken .reads-as) in

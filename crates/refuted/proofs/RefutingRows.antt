@@ -23,6 +23,8 @@ use Rattle.refuted.specs.WrongMends.{movesAlways, movesUndue, movesAtEdg
 use Rattle.refuted.specs.WrongMends.{closesAndMoves, highFirst, lengthStays, closesAll, clearsBody, finishFirst, closesAlone, alwaysResets}
 use Rattle.refuted.specs.WrongMends.{abortsOne, resetBare, finishesReset, endStays, mendKeeps}
 use Rattle.refuted.specs.WrongClosed.{closingForeign, resetForeign, closesSeven, checksBody, checksCrc, pastReset, roomWithClosed, logsClosed}
+use Rattle.refuted.specs.WrongPlaces.{placesStay, convertStays, putStays, deleteStays, abortPlaces, placesOthers, mountPlaces, trustsPlace}
+use Rattle.refuted.specs.WrongPlaces.{readsAnyLength, readsAfresh, staleFirst, noneFirst, readsByHeader, skipsPlaces}
 use Rattle.refuted.specs.WrongRows.{RightInRows}
 use Rattle.refuted.proofs.RowsKept.{FormatsAnswered, rows-kept}
 
@@ -60,6 +62,8 @@ unfolding refusesAll refusesPuts refusesHighIds ownFormatsOnly firstHalfOnly hos
     roomBeforePending anyBody roomByFirst convertsWorn mountFallsBack laterEdition recordKeeps tornForeign fullByFirst movesAlways movesAtEdge movesUndue
     neverMoves fitsUnclosed fitsFive leavesTorn wornMends closesAndMoves highFirst lengthStays closesAll clearsBody finishFirst closesAlone alwaysResets
     abortsOne resetBare finishesReset endStays mendKeeps closingForeign resetForeign closesSeven checksBody checksCrc pastReset roomWithClosed logsClosed
+    placesStay convertStays putStays deleteStays abortPlaces placesOthers mountPlaces trustsPlace readsAnyLength readsAfresh staleFirst noneFirst readsByHeader
+    skipsPlaces
 right-in-rows =
     record {
       refuses-all = rows-kept refusesAll (λ img r o. refl);
@@ -162,4 +166,18 @@ right-in-rows =
       past-reset = rows-kept pastReset (λ img r o. refl);
       room-with-closed = rows-kept roomWithClosed (λ img r o. refl);
       logs-closed = rows-kept logsClosed (λ img r o. refl);
+      places-stay = rows-kept placesStay (λ img r o. refl);
+      convert-stays = rows-kept convertStays (λ img r o. refl);
+      put-stays = rows-kept putStays (λ img r o. refl);
+      delete-stays = rows-kept deleteStays (λ img r o. refl);
+      abort-places = rows-kept abortPlaces (λ img r o. refl);
+      places-others = rows-kept placesOthers (λ img r o. refl);
+      mount-places = rows-kept mountPlaces (λ img r o. refl);
+      trusts-place = rows-kept trustsPlace (λ img r o. refl);
+      reads-any-length = rows-kept readsAnyLength (λ img r o. refl);
+      reads-afresh = rows-kept readsAfresh (λ img r o. refl);
+      stale-first = rows-kept staleFirst (λ img r o. refl);
+      none-first = rows-kept noneFirst (λ img r o. refl);
+      reads-by-header = rows-kept readsByHeader (λ img r o. refl);
+      skips-places = rows-kept skipsPlaces (λ img r o. refl);
     }

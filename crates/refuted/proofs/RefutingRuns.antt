@@ -12,7 +12,7 @@ use Rattle.wire.specs.Message.{parse}
 use Rattle.board.specs.Record.{allowed, noPlaces, noFrame}
 use Rattle.board.specs.Step.{enterAppend, enterDrop, enterCopy, enterOpen, enterClose, enterWipe, advance, stepBusy, stepOn}
 use Rattle.board.specs.Mount.{mountAt, mountFound, mountOn, formatOrder, formatOn}
-use Rattle.board.specs.Queue.{fitsRecord, held, append, serveChange, serveEnd, serveLog, serve, requestOn}
+use Rattle.board.specs.Queue.{fitsRecord, held, append, serveChange, serveEnd, serveLog, serve, requestOn, readAt, readPlace}
 use Rattle.refuted.specs.Wrong.{refusesAll, refusesPuts, refusesHighIds, ownFormatsOnly, firstHalfOnly, hostFirst, refusalClears}
 use Rattle.refuted.specs.Wrong.{refusedLogWrites, readsAlike, inventsCount, neverCommits, abortsNothing, takesOthers, keepsOld}
 use Rattle.refuted.specs.Wrong.{programsNothing, wholeFrame, waitsLong, inventsStep, erasesFirst, hurriedMount, losesAll, keepsPending}
@@ -29,10 +29,10 @@ unfolding numbersFrom sizeIn allowed refusesAll refusesPuts refusesHighIds ownFo
     keepsPending refusesAlike overlooksForeign namesSecond tiesAtStart refusesHalfErased takesHalfErased formatsAtOnce formatsBlindly goesBack erasesOne
     evenOnly allFF sameBytes applyAll writes encodeAll total hostLayout layoutOf match readFrame scan insert remove lookup changeAll listOf without isOpen
     replayFrom editionIn headerFault blockState changing noRoom hostFull sited placesFrom sinceFrom valueAt nextSettled nextPending nextLoad parse noPlaces
-    noFrame enterAppend enterDrop enterCopy enterOpen enterClose enterWipe advance stepBusy stepOn mountAt mountFound mountOn formatOrder formatOn fitsRecord
-    held append serveChange serveEnd serveLog serve requestOn half blankHalf stored pending later second begun twice tiedHalves bothStrange strange halfErased
-    seemsEmpty inMiddle begunTwice storedFirst heavy nearlyFull full fullAtHalf fullByAll fullByValues fullByImage fullByTwo deletesPass roomFirst abortKeeps
-    transferClears mountKeeps
+    noFrame enterAppend enterDrop enterCopy enterOpen enterClose enterWipe advance stepBusy stepOn mountAt mountFound mountOn formatOrder formatOn
+    fitsRecord held append serveChange serveEnd serveLog serve readAt readPlace requestOn half blankHalf stored pending later second begun twice tiedHalves
+    bothStrange strange halfErased seemsEmpty inMiddle begunTwice storedFirst heavy nearlyFull full fullAtHalf fullByAll fullByValues fullByImage fullByTwo
+    deletesPass roomFirst abortKeeps transferClears mountKeeps
 runs =
     record {
       refuses-all = record { is-run = refl; shows-wrong = refl; shows-right = refl; apart = refl };

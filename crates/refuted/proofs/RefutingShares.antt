@@ -9,15 +9,15 @@ use Rattle.flash.specs.Bytes.{allFF, sameBytes}
 use Rattle.flash.specs.Flash.{numbersFrom, sizeIn, applyAll, writes, sizeOf}
 use Rattle.frame.specs.Frame.{hostOf, idOf, Change, put, change, encodeAll, total}
 use Rattle.frame.specs.Reader.{hostLayout, layoutOf, match, readFrame, scan}
-use Rattle.journal.specs.Replay.{listOf, isOpen, replayFrom}
-use Rattle.journal.specs.Block.{editionIn, headerFault, blockState, changing}
+use Rattle.journal.specs.Replay.{listOf, isOpen, replayFrom, lookup}
+use Rattle.journal.specs.Block.{editionIn, headerFault, blockState}
 use Rattle.journal.specs.Room.{noRoom, hostFull}
-use Rattle.journal.specs.Index.{placesFrom, sinceFrom, nextSettled, nextPending, nextLoad}
+use Rattle.journal.specs.Index.{placesFrom, sinceFrom, nextSettled, nextPending, nextLoad, sited}
 use Rattle.wire.specs.Message.{parse}
 use Rattle.board.specs.Record.{allowed, unmounted, rest, counting, idle, Out, noPlaces, noFrame}
 use Rattle.board.specs.Step.{enterAppend, enterDrop, enterCopy, enterOpen, enterClose, enterWipe, advance, stepBusy, stepOn}
 use Rattle.board.specs.Mount.{formatOrder, formatOn}
-use Rattle.board.specs.Queue.{fitsRecord, held, append, serveChange, serve, requestOn}
+use Rattle.board.specs.Queue.{fitsRecord, held, append, serveChange, serve, requestOn, readAt, readPlace}
 use Rattle.board.specs.Exec.{Call, format, Machine}
 use Rattle.board.specs.Book.{Book, firstBook, join, enterCall}
 use Rattle.board.specs.Claim.{call, Run, Track, tracked, track, IdleAgrees, Agrees, begunBy, formatted, Claim}
@@ -46,7 +46,7 @@ abbrev holding : Left
 holding =
     record {
       image = half 1 (change (hostOf 2) changed ∷ []) ++ blankHalf;
-      board = idle (counting (rest 2 767 0 209 1) (0 ∷ 0 ∷ 193 ∷ 0 ∷ []));
+      board = idle noPlaces (counting (rest 2 767 0 209 1) (0 ∷ 0 ∷ 193 ∷ 0 ∷ []));
       book = join firstBook (hostOf 2) changed;
     }
 
@@ -57,9 +57,9 @@ record Computed : Type 0 where
 
 computed : Computed
 unfolding fullByImage numbersFrom sizeIn allowed allFF sameBytes applyAll writes encodeAll total hostLayout layoutOf match readFrame scan listOf isOpen
-    replayFrom editionIn headerFault blockState noRoom hostFull placesFrom sinceFrom nextSettled nextPending nextLoad parse noPlaces noFrame enterAppend
-    enterDrop enterCopy enterOpen enterClose enterWipe advance stepBusy stepOn formatOrder formatOn fitsRecord held append serveChange serve requestOn half
-    blankHalf
+    replayFrom editionIn headerFault blockState noRoom hostFull sited lookup placesFrom sinceFrom nextSettled nextPending nextLoad parse noPlaces noFrame
+    enterAppend enterDrop enterCopy enterOpen enterClose enterWipe advance stepBusy stepOn formatOrder formatOn fitsRecord held append serveChange serve
+    readAt readPlace requestOn half blankHalf
 computed = record { formatted-is = refl; holding-is = refl; half-block = refl }
 
 pub full-by-image : Claim 2 m → ⊥

@@ -6,7 +6,7 @@ use mathlib.Core.Option.{some}
 use mathlib.Core.Bool.{true, false}
 use Prim.Native.Nat.{ℕ}
 use native.Mathlib.Omega.{arith}
-use lib.ListN.{length}
+use lib.ListN.{length, set}
 use Rattle.flash.specs.Bytes.{allFF, sameBytes}
 use Rattle.flash.specs.Flash.{numbersFrom, sizeIn, applyAll, writes, block, sizeOf}
 use Rattle.frame.specs.declared.Edition.the-variants as edition
@@ -25,7 +25,7 @@ use Rattle.board.specs.declared.Record.{Record}
 use Rattle.board.specs.Record.{allowed, unmounted, rest, counting, idle, Out, noPlaces, noFrame}
 use Rattle.board.specs.Step.{enterAppend, enterDrop, enterCopy, enterOpen, enterClose, enterWipe, advance, stepBusy, stepOn}
 use Rattle.board.specs.Mount.{mountAt, mountFound, mountOn, formatOrder, formatOn, replayOf}
-use Rattle.board.specs.Queue.{fitsRecord, held, append, serveChange, serveEnd, serve, requestOn}
+use Rattle.board.specs.Queue.{fitsRecord, held, append, serveChange, serveEnd, serve, requestOn, readAt, readPlace}
 use Rattle.board.specs.Exec.{Call, step, mount, format, Machine}
 use Rattle.board.specs.Book.{Book, book, nothing, noLists, firstBook}
 use Rattle.board.specs.Claim.{ByteCall, call, Run, Track, tracked, track, Agrees, begunBy, formatted, Claim}
@@ -34,7 +34,7 @@ use Rattle.board.specs.Demand2.{UsableFrom}
 use Rattle.board.specs.Promise.{ByteEvents}
 use Rattle.refuted.specs.Wrong.{offBench}
 use Rattle.refuted.specs.WrongMends.{finishFirst, closesAlone, highFirst, endStays}
-use Rattle.refuted.specs.WrongRuns.{allBytes, half, blankHalf, stepping, putEmpty, commits, reads}
+use Rattle.refuted.specs.WrongRuns.{allBytes, half, blankHalf, stepping, putEmpty, commits}
 use Rattle.refuted.specs.MendRuns.{tornPut}
 use Rattle.board.proofs.Erasing.{same-valid}
 use Rattle.board.proofs.Runs.{run-rest}
@@ -42,11 +42,11 @@ use Rattle.refuted.proofs.Refuting.{bytes-all, bytes-in}
 use Rattle.refuted.proofs.RefutingCut.{calls-then, img, empty, claimed-of}
 
 -- what some calls leave, from a finished format on
-abbrev leftBy : Machine → List Call → Left
+abbrev pub leftBy : Machine → List Call → Left
 leftBy m cs = afterAll 2 m (empty .image) (empty .board) firstBook (map call cs)
 
 -- and after one more the record agrees with the book
-agrees-after : {l : Left} (m : Machine) → Claim 2 m → formatted 2 m img unmounted ≡ empty → (cs : List Call) → ByteEvents (map call cs) → (c : Call)
+pub agrees-after : {l : Left} (m : Machine) → Claim 2 m → formatted 2 m img unmounted ≡ empty → (cs : List Call) → ByteEvents (map call cs) → (c : Call)
     → ByteCall c → afterAll 2 m (leftBy m cs .image) (leftBy m cs .board) (leftBy m cs .book) (call c ∷ []) ≡ l
     → (a : Call) × (u : Track) × Agrees 2 m a u (l .image) (l .board) (l .book)
 agrees-after {l} m p f cs bs c bc e =
@@ -81,7 +81,7 @@ cutting = torn (mount ∷ step ∷ [])
 
 -- the mount after it finds nothing to mend
 abbrev whole : List Object → Left
-whole os = record { image = putThen (commit (hostOf 2) ∷ []); board = idle (rest 2 767 0 30 1); book = book os noLists nothing }
+whole os = record { image = putThen (commit (hostOf 2) ∷ []); board = idle (set noPlaces 7 16) (rest 2 767 0 30 1); book = book os noLists nothing }
 
 record Hasty : Type 0 where
   formatted-is : formatted 2 hasty img unmounted ≡ empty
@@ -95,7 +95,7 @@ hasty-done : Hasty
 unfolding finishFirst numbersFrom sizeIn allowed allFF sameBytes applyAll writes encodeAll total hostLayout layoutOf match readFrame scan insert remove lookup
     changeAll listOf without isOpen replayFrom editionIn headerFault blockState changing noRoom hostFull sited placesFrom sinceFrom valueAt nextSettled
     nextPending nextLoad parse noPlaces noFrame enterAppend enterDrop enterCopy enterOpen enterClose enterWipe advance stepBusy stepOn mountAt mountFound
-    mountOn formatOrder formatOn fitsRecord held append serveChange serveEnd serve requestOn half blankHalf
+    mountOn formatOrder formatOn fitsRecord held append serveChange serveEnd serve readAt readPlace requestOn half blankHalf
 hasty-done = record { formatted-is = refl; image-is = refl; objects-are = refl; mounts-as = λ r b. refl; reads-as = refl }
 
 whole-is : afterAll 2 hasty (leftBy hasty cutting .image) (leftBy hasty cutting .board) (leftBy hasty cutting .book) (call mount ∷ []) ≡ whole []
@@ -121,7 +121,7 @@ abbrev still : Left
 still =
     record {
       image = putThen (closed (2 ∷ []) ∷ []);
-      board = idle (counting (rest 2 767 0 30 1) (0 ∷ 0 ∷ 8 ∷ 0 ∷ []));
+      board = idle noPlaces (counting (rest 2 767 0 30 1) (0 ∷ 0 ∷ 8 ∷ 0 ∷ []));
       book = book [] noLists nothing;
     }
 
@@ -135,7 +135,7 @@ lazy-done : Lazy
 unfolding closesAlone numbersFrom sizeIn allowed allFF sameBytes applyAll writes encodeAll total hostLayout layoutOf match readFrame scan insert remove lookup
     changeAll listOf without isOpen replayFrom editionIn headerFault blockState changing noRoom hostFull sited placesFrom sinceFrom valueAt nextSettled
     nextPending nextLoad parse noPlaces noFrame enterAppend enterDrop enterCopy enterOpen enterClose enterWipe advance stepBusy stepOn mountAt mountFound
-    mountOn formatOrder formatOn fitsRecord held append serveChange serveEnd serve requestOn half blankHalf
+    mountOn formatOrder formatOn fitsRecord held append serveChange serveEnd serve readAt readPlace requestOn half blankHalf
 lazy-done = record { formatted-is = refl; still-is = refl; reads-as = refl }
 
 pub closes-alone : Claim 2 lazy → ⊥
@@ -165,7 +165,7 @@ turned-done : Turned
 unfolding highFirst numbersFrom sizeIn allowed allFF sameBytes applyAll writes encodeAll total hostLayout layoutOf match readFrame scan insert remove lookup
     changeAll listOf without isOpen replayFrom editionIn headerFault blockState changing noRoom hostFull sited placesFrom sinceFrom valueAt nextSettled
     nextPending nextLoad parse noPlaces noFrame enterAppend enterDrop enterCopy enterOpen enterClose enterWipe advance stepBusy stepOn mountAt mountFound
-    mountOn formatOrder formatOn fitsRecord held append serveChange serve requestOn half blankHalf
+    mountOn formatOrder formatOn fitsRecord held append serveChange serve readAt readPlace requestOn half blankHalf
 turned-done = record { formatted-is = refl; refused = refl }
 
 pub high-first : Claim 2 turned → ⊥
@@ -187,17 +187,17 @@ after n cs = afterAll 2 short tornPut (short tornPut unmounted mount .board) fir
 record Short : Type 0 where
   is-bytes : allBytes tornPut ≡ true
   allowed-length : allowed 2 (length tornPut) ≡ true
-  stale : numberOf (short (after 4 [] .image) (after 4 [] .board) reads .answer) ≡ some 11
+  stale : numberOf (short (after 4 [] .image) (after 4 [] .board) commits .answer) ≡ some 11
 
 short-done : Short
 unfolding endStays numbersFrom sizeIn allowed allFF sameBytes applyAll writes encodeAll total hostLayout layoutOf match readFrame scan insert remove lookup
     changeAll listOf without isOpen replayFrom editionIn headerFault blockState changing noRoom hostFull sited placesFrom sinceFrom valueAt nextSettled
     nextPending nextLoad parse noPlaces noFrame enterAppend enterDrop enterCopy enterOpen enterClose enterWipe advance stepBusy stepOn mountAt mountFound
-    mountOn fitsRecord held append serveChange serveEnd serve requestOn half blankHalf tornPut
+    mountOn fitsRecord held append serveChange serveEnd serve readAt readPlace requestOn half blankHalf tornPut
 short-done = record { is-bytes = refl; allowed-length = refl; stale = refl }
 
 pub end-stays : UsableFrom 2 short → ⊥
 end-stays p =
-    let y = p .from-mount tornPut unmounted firstBook (map call (stepping 4 (reads ∷ []))) (bytes-all tornPut (short-done .is-bytes))
-    (short-done .allowed-length) (tt, (tt, (tt, (tt, (bytes-in (reads ∷ []) refl .0, tt))))) in
+    let y = p .from-mount tornPut unmounted firstBook (map call (stepping 4 (commits ∷ []))) (bytes-all tornPut (short-done .is-bytes))
+    (short-done .allowed-length) (tt, (tt, (tt, (tt, (bytes-in (commits ∷ []) refl .0, tt))))) in
     y .1 .1 .1 .1 .0 (short-done .stale)

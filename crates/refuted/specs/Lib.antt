@@ -4,9 +4,11 @@ pub mod WrongShares
 pub mod WrongEditions
 pub mod WrongMends
 pub mod WrongClosed
+pub mod WrongPlaces
 pub mod Refuted
 pub mod WrongRuns
 pub mod EditionRuns
 pub mod MendRuns
+pub mod PlaceRuns
 pub mod Seen
 pub mod WrongRows

@@ -101,10 +101,10 @@ pub record MendRuns : Type 0 where
   pub always-resets : Differs 2 alwaysResets stored (mount ∷ []) answered 255 0
   -- an abort of host 1, six steps: host 2's put is pending
   pub aborts-one : Differs 2 abortsOne twoPending (mount ∷ stepping 6 (commits ∷ [])) answered 255 0
-  pub reset-bare : Differs 2 resetBare newPending (mount ∷ stepping 9 (reads ∷ [])) answered 11 8
+  pub reset-bare : Differs 2 resetBare newPending (mount ∷ stepping 9 (commits ∷ [])) answered 11 0
   -- three to close, and a reset's five
   pub finishes-reset : Differs 2 finishesReset tornReset (mount ∷ stepping 5 []) answered 0 255
-  pub end-stays : Differs 2 endStays tornPut (mount ∷ stepping 4 (reads ∷ [])) answered 11 0
+  pub end-stays : Differs 2 endStays tornPut (mount ∷ stepping 4 (commits ∷ [])) answered 11 0
   pub mend-keeps : Differs 2 mendKeeps pending (mount ∷ stepping 5 (commits ∷ [])) answered 11 0
   pub closing-foreign : Differs 2 closingForeign closingPut (mount ∷ []) answered 3 255
   pub reset-foreign : Differs 2 resetForeign tornReset (mount ∷ []) answered 3 255

@@ -22,6 +22,8 @@ use Rattle.refuted.specs.WrongMends.{movesAlways, movesUndue, movesAtEdg
 use Rattle.refuted.specs.WrongMends.{closesAndMoves, highFirst, lengthStays, closesAll, clearsBody, finishFirst, closesAlone, alwaysResets}
 use Rattle.refuted.specs.WrongMends.{abortsOne, resetBare, finishesReset, endStays, mendKeeps}
 use Rattle.refuted.specs.WrongClosed.{closingForeign, resetForeign, closesSeven, checksBody, checksCrc, pastReset, roomWithClosed, logsClosed}
+use Rattle.refuted.specs.WrongPlaces.{placesStay, convertStays, putStays, deleteStays, abortPlaces, placesOthers, mountPlaces, trustsPlace}
+use Rattle.refuted.specs.WrongPlaces.{readsAnyLength, readsAfresh, staleFirst, noneFirst, readsByHeader, skipsPlaces}
 
 -- on the bench's images, whatever is done off it; for the rows one by one see WrongRows
 unfoldable pub RightOnBench : Type 0
@@ -129,3 +131,17 @@ pub record Refuted : Type 0 where
   pub past-reset : Kept (offBench pastReset) → ⊥
   pub room-with-closed : Kept (offBench roomWithClosed) → ⊥
   pub logs-closed : Kept (offBench logsClosed) → ⊥
+  pub places-stay : Kept (offBench placesStay) → ⊥
+  pub convert-stays : Kept (offBench convertStays) → ⊥
+  pub put-stays : Kept (offBench putStays) → ⊥
+  pub delete-stays : Kept (offBench deleteStays) → ⊥
+  pub abort-places : Kept (offBench abortPlaces) → ⊥
+  pub places-others : Kept (offBench placesOthers) → ⊥
+  pub mount-places : Kept (offBench mountPlaces) → ⊥
+  pub trusts-place : Kept (offBench trustsPlace) → ⊥
+  pub reads-any-length : Kept (offBench readsAnyLength) → ⊥
+  pub reads-afresh : Kept (offBench readsAfresh) → ⊥
+  pub stale-first : Kept (offBench staleFirst) → ⊥
+  pub none-first : Kept (offBench noneFirst) → ⊥
+  pub reads-by-header : Kept (offBench readsByHeader) → ⊥
+  pub skips-places : Kept (offBench skipsPlaces) → ⊥

@@ -3,7 +3,7 @@
 use mathlib.Core.List.{List, [], _∷_, _++_}
 use mathlib.Core.Path.{_≡_}
 use Prim.Native.Nat.{ℕ, zero, suc, _+_}
-use lib.ListN.{take, drop, replicate}
+use lib.ListN.{take, drop, replicate, set}
 use Rattle.flash.specs.Flash.{block}
 use Rattle.frame.specs.declared.Edition.the-variants as edition
 use Rattle.frame.specs.Frame.{hostOf, idOf}
@@ -14,7 +14,7 @@ use Rattle.wire.specs.declared.Answer.{Answer}
 use Rattle.wire.specs.declared.Answer.the-variants.{Done, More, Refused}
 use Rattle.wire.specs.declared.Refusal.the-variants as refusal
 use Rattle.board.specs.declared.Record.{Record}
-use Rattle.board.specs.Record.{unmounted, rest, counting, idle, Out}
+use Rattle.board.specs.Record.{unmounted, noPlaces, rest, counting, idle, Out}
 use Rattle.board.specs.Exec.{request, step, mount, format, Machine}
 
 -- what a call and its steps give, and how many step calls it took
@@ -143,19 +143,30 @@ formatAnswer m n = m (replicate n 0x5A) unmounted format .answer
 
 -- ---- the table
 
+-- K8: id i's frame starts at p, other ids have these places
+abbrev pub at : ℕ → ℕ → List ℕ → List ℕ
+at i p ps = set ps i p
+
+-- objects 1 to 3 in their puts, and in the settled frames of a transfer
+abbrev pub threePuts : List ℕ
+threePuts = at 1 16 (at 2 94 (at 3 172 noPlaces))
+
+abbrev pub threeSettled : List ℕ
+threeSettled = at 1 16 (at 2 87 (at 3 158 noPlaces))
+
 pub record Rows (m : Machine) : Type 0 where
   pub a-steps : rowA m .steps ≡ 12
-  pub a-done : rowA m .board ≡ idle (rest 2 511 0 16 1)
+  pub a-done : rowA m .board ≡ idle noPlaces (rest 2 511 0 16 1)
   pub a-half : part 0 16 (rowA m .image)
       ≡ 0x10 ∷ 0x00 ∷ 0x01 ∷ 0x4A ∷ 0xFE ∷ 0xFF ∷ 0xFF ∷ 0xFF ∷ 0xFC ∷ 0xFF ∷ 0xFF ∷ 0xFF ∷ 0xFF ∷ 0xFF ∷ 0xFF ∷ 0xFF ∷ []
   pub a-rest : drop 16 (rowA m .image) ≡ replicate 496 0xFF
   pub b-steps : rowB m .steps ≡ 10
   -- the put's ten bytes are pending, host 2's
-  pub b-done : rowB m .board ≡ idle (counting (rest 2 511 0 26 1) (0 ∷ 0 ∷ 10 ∷ 0 ∷ []))
+  pub b-done : rowB m .board ≡ idle noPlaces (counting (rest 2 511 0 26 1) (0 ∷ 0 ∷ 10 ∷ 0 ∷ []))
   pub b-frame : part 16 10 (rowB m .image) ≡ 0x0A ∷ 0x00 ∷ 0x01 ∷ 0x00 ∷ 0x02 ∷ 0x05 ∷ 0x00 ∷ 0x41 ∷ 0x42 ∷ 0xFE ∷ []
   pub c-steps : rowC m .steps ≡ 6
   pub c-frame : part 26 6 (rowC m .image) ≡ 0x06 ∷ 0x00 ∷ 0x03 ∷ 0x00 ∷ 0x02 ∷ 0xFE ∷ []
-  pub c-end : rowC m .board ≡ idle (rest 2 511 0 32 1)
+  pub c-end : rowC m .board ≡ idle (at 5 16 noPlaces) (rest 2 511 0 32 1)
   pub c-rest : drop 32 (rowC m .image) ≡ replicate 480 0xFF
   pub d-answer : rowD m .answer ≡ Done
   pub d-place : rowD m .stretch ≡ record { at = 23; size = 2 }
@@ -164,24 +175,24 @@ pub record Rows (m : Machine) : Type 0 where
       ≡ 0x0E ∷ 0x00 ∷ 0x01 ∷ 0x02 ∷ 0x01 ∷ 0x00 ∷ 0x00 ∷ 0x00 ∷ 0x01 ∷ 0x00 ∷ 0x19 ∷ 0x00 ∷ 0x00 ∷ 0x01 ∷ 0xEE ∷ 0xEE ∷ []
   -- K11: "Row f becomes 5 steps and row g 7, both staying in half 0." The put ends at 26; in f a reset follows it
   pub f-steps : rowF m .steps ≡ 5
-  pub f-done : rowF m .board ≡ idle (rest 2 511 0 31 1)
+  pub f-done : rowF m .board ≡ idle noPlaces (rest 2 511 0 31 1)
   pub f-time : timed 0 (rowF m) ≡ 1
   pub f-reset : part 26 5 (rowF m .image) ≡ 0x05 ∷ 0x00 ∷ 0x07 ∷ 0x00 ∷ 0xFE ∷ []
   pub f-rest : drop 31 (rowF m .image) ≡ replicate 481 0xFF
   pub f-holds : replayed 0 (rowF m) ≡ state [] []
   -- in g the commit's five bytes are closed first: its kind's low byte and its finish byte must change
   pub g-steps : rowG m .steps ≡ 7
-  pub g-done : rowG m .board ≡ idle (rest 2 511 0 37 1)
+  pub g-done : rowG m .board ≡ idle noPlaces (rest 2 511 0 37 1)
   pub g-closed : part 26 6 (rowG m .image) ≡ 0x06 ∷ 0x00 ∷ 0x00 ∷ 0x00 ∷ 0x02 ∷ 0xFE ∷ []
   pub g-reset : part 32 5 (rowG m .image) ≡ 0x05 ∷ 0x00 ∷ 0x07 ∷ 0x00 ∷ 0xFE ∷ []
   pub g-rest : drop 37 (rowG m .image) ≡ replicate 475 0xFF
   pub g-holds : replayed 0 (rowG m) ≡ state [] []
   pub h-steps : rowH m .steps ≡ 0
-  pub h-done : rowH m .board ≡ idle (rest 2 511 0 32 1)
+  pub h-done : rowH m .board ≡ idle (at 5 16 noPlaces) (rest 2 511 0 32 1)
   pub h-holds : replayed 0 (rowH m) ≡ state (object (idOf 5) (0x41 ∷ 0x42 ∷ []) ∷ []) []
   -- three puts of 72 bytes and three commits of 6 after the header's 16; C = U = 16 + 3·71
   pub i-accepted : ask m (rowA m) 0 (putMessage 1 64) .answer ≡ More
-  pub i-done : rowI m 64 .board ≡ idle (rest 2 511 0 250 1)
+  pub i-done : rowI m 64 .board ≡ idle threePuts (rest 2 511 0 250 1)
   pub i-claimed : claimed edition.First (replayed 0 (rowI m 64)) ≡ 229
   -- 229 + 8 + 6 + 14 = 257; with 63 bytes in id 3 256. The commit of row k has nothing pending
   pub j : ask m (rowI m 64) 0 (putMessage 4 0) .answer ≡ Refused refusal.NoRoom
@@ -190,11 +201,11 @@ pub record Rows (m : Machine) : Type 0 where
   pub k-accepted : ask m (rowK m 63) 0 (putMessage 4 0) .answer ≡ More
   -- 250 + 8 > 256: C - 5 = 224 steps, then the delete's 8. Its frame ends at 229 + 8 and is pending
   pub l-transfer : rowLDelete m .steps ≡ 232
-  pub l-pending : rowLDelete m .board ≡ idle (counting (rest 2 511 1 237 1) (8 ∷ 0 ∷ 0 ∷ 0 ∷ []))
+  pub l-pending : rowLDelete m .board ≡ idle threeSettled (counting (rest 2 511 1 237 1) (8 ∷ 0 ∷ 0 ∷ 0 ∷ []))
   pub l-steps : rowL m .steps ≡ 8
   -- beyond row l: what it leaves, byte for byte. The old half blank; the new one's header at time 2, the settled frames of ids 1, 2 and 3, 71
   -- bytes each, then delete, commit and put
-  pub l-done : rowL m .board ≡ idle (counting (rest 2 511 1 251 1) (8 ∷ 0 ∷ 0 ∷ 0 ∷ []))
+  pub l-done : rowL m .board ≡ idle (at 1 0 threeSettled) (counting (rest 2 511 1 251 1) (8 ∷ 0 ∷ 0 ∷ 0 ∷ []))
   pub l-old : part 0 256 (rowL m .image) ≡ replicate 256 0xFF
   pub l-header : part 256 16 (rowL m .image)
       ≡ 0x10 ∷ 0x00 ∷ 0x01 ∷ 0x4A ∷ 0xFD ∷ 0xFF ∷ 0xFF ∷ 0xFF ∷ 0xFC ∷ 0xFF ∷ 0xFF ∷ 0xFF ∷ 0xFF ∷ 0xFF ∷ 0xFF ∷ 0xFF ∷ []
@@ -207,14 +218,14 @@ pub record Rows (m : Machine) : Type 0 where
   pub l-rest : drop 507 (rowL m .image) ≡ replicate 5 0xFF
   -- the 223rd step says 0xFC: before it the old half is current, after it the new one. The mount erases the other
   pub m-222-steps : rowM m 222 .steps ≡ 1
-  pub m-222-done : rowM m 222 .board ≡ idle (rest 2 511 0 250 1)
+  pub m-222-done : rowM m 222 .board ≡ idle threePuts (rest 2 511 0 250 1)
   pub m-222-holds : replayed 0 (rowM m 222) ≡ state three []
   pub m-223-steps : rowM m 223 .steps ≡ 1
-  pub m-223-done : rowM m 223 .board ≡ idle (rest 2 511 1 229 1)
+  pub m-223-done : rowM m 223 .board ≡ idle threeSettled (rest 2 511 1 229 1)
   pub m-223-holds : replayed 1 (rowM m 223) ≡ state three []
   pub n : ask m (rowA m) 0 (0x05 ∷ 0x00 ∷ 0x03 ∷ 0x01 ∷ []) .answer ≡ Refused refusal.Malformed
   pub o-240-steps : rowO m 240 .steps ≡ 248
-  pub o-240-done : rowO m 240 .board ≡ idle (counting (rest 2 1023 0 264 1) (248 ∷ 0 ∷ 0 ∷ 0 ∷ []))
+  pub o-240-done : rowO m 240 .board ≡ idle noPlaces (counting (rest 2 1023 0 264 1) (248 ∷ 0 ∷ 0 ∷ 0 ∷ []))
   pub o-241 : rowO m 241 .answer ≡ Refused refusal.Malformed
   -- beyond row o, K7: where S is 256 a host's pending frames come to 128 bytes at most, so a value has 120 at most
   pub o-240-short : ask m (rowA m) 0 (putMessage 9 240) .answer ≡ Refused refusal.HostFull

@@ -1,5 +1,5 @@
 -- Clauses of the promise that each see a wrong store alone, without the others. The runs are in proofs/RefutingCut, RefutingOlder,
--- RefutingClauses, RefutingShares, RefutingConverts and RefutingTorn.
+-- RefutingClauses, RefutingShares, RefutingConverts, RefutingTorn and RefutingPlaced.
 use Rattle.board.specs.Claim.{Claim}
 use Rattle.board.specs.CutFormat.{CutFormat}
 use Rattle.board.specs.Demand2.{UsableFrom}
@@ -7,6 +7,7 @@ use Rattle.refuted.specs.Wrong.{offBench, refusesHalfErased, takesHalfEr
 use Rattle.refuted.specs.WrongShares.{fullByImage}
 use Rattle.refuted.specs.WrongEditions.{dropsFirst, tornForeign}
 use Rattle.refuted.specs.WrongMends.{finishFirst, closesAlone, highFirst, endStays}
+use Rattle.refuted.specs.WrongPlaces.{placesStay, deleteStays}
 
 pub record Seen : Type 0 where
   -- demand 3: a half-erased half that is foreign; the store before K4
@@ -25,6 +26,9 @@ pub record Seen : Type 0 where
   pub finish-first : Claim 2 (offBench finishFirst 2) → ⊥
   pub closes-alone : Claim 2 (offBench closesAlone 2) → ⊥
   pub high-first : Claim 2 (offBench highFirst 2) → ⊥
+  -- demand 3, K8: a read after a convert gets 11; a record at rest has a place for a deleted id
+  pub places-stay : Claim 2 (offBench placesStay 2) → ⊥
+  pub delete-stays : Claim 2 (offBench deleteStays 2) → ⊥
   -- a format that erases the store's block first
   pub formats-blindly : CutFormat 2 (offBench formatsBlindly 2) → ⊥
   -- a mount that answers 0 and leaves a block that isn't blank beside the store

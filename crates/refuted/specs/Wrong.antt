@@ -25,7 +25,7 @@ use Rattle.board.specs.declared.Record.{Record}
 use Rattle.board.specs.Record.{allowed, unmounted, counting, idle, cursor, inStage, Stretch, Out, out, refuse, answerOf}
 use Rattle.board.specs.Step.{begin}
 use Rattle.board.specs.Mount.{allFound, anyForeign, Store, stores, newest, equalTimes, noneValid, tiedTimes, storeAt, mountJob, mountAt, numbersBut}
-use Rattle.board.specs.Mount.{found, timeOf, countsOf, upkeep}
+use Rattle.board.specs.Mount.{found, timeOf, countsOf, upkeep, placesIn}
 use Rattle.board.specs.Queue.{held}
 use Rattle.board.specs.Table.{isNone}
 use Rattle.board.specs.Exec.{Call, request, step, mount, format, Family, exec}
@@ -248,7 +248,8 @@ losesAll = mounts (λ N img o. byAnswer (o .answer) o (refuse refusal.NoStore im
 abbrev pub asItIs : ℕ → List ℕ → Out → List Store → Out
 asItIs N img o [] = o
 asItIs N img o (x ∷ []) =
-    let r : Record = idle (counting (storeAt N (length img - 1) x) (countsOf (x .journal))) in cond (isNone (held N img r)) o (out Done img r [])
+    let r : Record = idle (placesIn (x .journal)) (counting (storeAt N (length img - 1) x) (countsOf (x .journal))) in
+    cond (isNone (held N img r)) o (out Done img r [])
 asItIs N img o (x ∷ y ∷ ys) = o
 
 -- "A mount drops all pending changes, as a cut does"

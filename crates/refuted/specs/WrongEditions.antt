@@ -5,7 +5,7 @@ use mathlib.Core.Option.{Option, none, some}
 use mathlib.Core.Bool.{_&&_, cond}
 use Prim.Native.Nat.{ℕ, zero, suc, _+_, _*_, _-_}
 use lib.Dec.{eqb, ltb, leb}
-use lib.ListN.{length, take, drop, getD}
+use lib.ListN.{length, take, drop, getD, set}
 use Rattle.flash.specs.Bytes.{u32le}
 use Rattle.flash.specs.Flash.{blockNumbers, block, sizeOf}
 use Rattle.crc.specs.Crc.{crc32Of}
@@ -27,11 +27,12 @@ use Rattle.board.specs.declared.Stage.the-variants.{Open}
 use Rattle.board.specs.declared.Job.{Job}
 use Rattle.board.specs.declared.Cursor.{Cursor}
 use Rattle.board.specs.declared.Record.{Record}
-use Rattle.board.specs.Record.{allowed, unmounted, counting, landing, cursor, inStage, noStretch, Out, out}
+use Rattle.board.specs.Record.{allowed, unmounted, counting, landing, cursor, noStretch, Out, out}
 use Rattle.board.specs.Step.{begin}
 use Rattle.board.specs.Mount.{Found, allFound, Store, stores, newest, equalTimes, mountAt, mountFound, replayOf, endOf}
 use Rattle.board.specs.Queue.{Asking, asking, sizeFor, heldFor, refuseTo, doneAt, convertJob, convert, convertWith}
 use Rattle.board.specs.Exec.{request, mount, exec}
+use Rattle.board.specs.declared.Phase.the-variants.{Busy}
 use Rattle.refuted.specs.Wrong.{Wrongly, requests, requestsOf, steps, byStage, mounts, formats, byAnswer, accepted, onImage, jobWith, onJob}
 use Rattle.refuted.specs.WrongShares.{changes, fullOr, fullBy, appends}
 
@@ -98,7 +99,17 @@ convertsAgain = heldOf 0x0108 (λ a x o. accepted o (convert a x edition.First))
 
 -- a job that copies from id 1 on
 abbrev pub fromOne : Record → Record
-fromOne r = let c : Cursor = r .cursor in inStage Open (cursor (c .index) (c .at) 1 (c .source) (c .size) (c .off)) r
+fromOne r =
+    let c : Cursor = r .cursor in
+    record {
+      phase = Busy Open;
+      rest = r .rest;
+      places = set (r .places) 0 0;
+      job = r .job;
+      cursor = cursor (c .index) (c .at) 1 (c .source) (c .size) (c .off);
+      unit = r .unit;
+      frame = r .frame;
+    }
 
 abbrev pub onBoard : (Record → Record) → Out → Out
 onBoard f o = byAnswer (o .answer) o (out More (o .image) (f (o .board)) (o .reply)) o

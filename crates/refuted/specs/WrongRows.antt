@@ -15,6 +15,8 @@ use Rattle.refuted.specs.WrongMends.{movesAlways, movesUndue, movesAtEdg
 use Rattle.refuted.specs.WrongMends.{closesAndMoves, highFirst, lengthStays, closesAll, clearsBody, finishFirst, closesAlone, alwaysResets}
 use Rattle.refuted.specs.WrongMends.{abortsOne, resetBare, finishesReset, endStays, mendKeeps}
 use Rattle.refuted.specs.WrongClosed.{closingForeign, resetForeign, closesSeven, checksBody, checksCrc, pastReset, roomWithClosed, logsClosed}
+use Rattle.refuted.specs.WrongPlaces.{placesStay, convertStays, putStays, deleteStays, abortPlaces, placesOthers, mountPlaces, trustsPlace}
+use Rattle.refuted.specs.WrongPlaces.{readsAnyLength, readsAfresh, staleFirst, noneFirst, readsByHeader, skipsPlaces}
 
 pub record RightInRows : Type 0 where
   pub refuses-all : Rows (offBench refusesAll 2)
@@ -117,3 +119,17 @@ pub record RightInRows : Type 0 where
   pub past-reset : Rows (offBench pastReset 2)
   pub room-with-closed : Rows (offBench roomWithClosed 2)
   pub logs-closed : Rows (offBench logsClosed 2)
+  pub places-stay : Rows (offBench placesStay 2)
+  pub convert-stays : Rows (offBench convertStays 2)
+  pub put-stays : Rows (offBench putStays 2)
+  pub delete-stays : Rows (offBench deleteStays 2)
+  pub abort-places : Rows (offBench abortPlaces 2)
+  pub places-others : Rows (offBench placesOthers 2)
+  pub mount-places : Rows (offBench mountPlaces 2)
+  pub trusts-place : Rows (offBench trustsPlace 2)
+  pub reads-any-length : Rows (offBench readsAnyLength 2)
+  pub reads-afresh : Rows (offBench readsAfresh 2)
+  pub stale-first : Rows (offBench staleFirst 2)
+  pub none-first : Rows (offBench noneFirst 2)
+  pub reads-by-header : Rows (offBench readsByHeader 2)
+  pub skips-places : Rows (offBench skipsPlaces 2)

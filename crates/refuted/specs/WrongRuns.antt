@@ -13,7 +13,9 @@ use Rattle.journal.specs.Block.{header, inTransfer, validData}
 use Rattle.wire.specs.declared.Answer.the-variants.{Refused}
 use Rattle.wire.specs.declared.Refusal.the-variants as refusal
 use Rattle.wire.specs.Answer.{edgeNumber, spotOf}
+use Rattle.board.specs.declared.Record.{Record}
 use Rattle.board.specs.Record.{unmounted, noStretch}
+use Rattle.board.specs.Demand1.{Rests}
 use Rattle.board.specs.Exec.{Call, request, step, mount, format, Machine, exec}
 use Rattle.board.specs.Claim.{call}
 use Rattle.board.specs.Promise.{Shown, trace}
@@ -220,6 +222,20 @@ logs = asks logMessage
 -- with a reply of one byte
 abbrev pub logsShort : Call
 logsShort = request (hostOf 2) logMessage (0xEE ∷ [])
+
+-- ---- records that no run gives back
+
+-- what the answer to one call on `stored` is, under a record
+abbrev pub answeredUnder : Machine → Record → Call → ℕ
+answeredUnder m r c = answered (lastFrom nothing (trace 2 m stored r (call c ∷ [])))
+
+-- under a forged record in no job the wrong store answers one number and the machine another
+pub record Forged (w : Wrongly) (r : Record) (c : Call) (wrong right : ℕ) : Type 0 where
+  pub is-bytes : (allBytes stored && bytesIn (c ∷ [])) ≡ true
+  pub rests : Rests (r .phase)
+  pub shows-wrong : answeredUnder (offBench w 2) r c ≡ wrong
+  pub shows-right : answeredUnder (exec 2) r c ≡ right
+  pub apart : eqb wrong right ≡ false
 
 -- a mount, and a put with its steps
 abbrev pub afterPut : List Call → List Call

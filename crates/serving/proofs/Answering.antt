@@ -8,23 +8,23 @@ use native.Mathlib.Omega.{arith}
 use lib.Dec.{eqb, ltb}
 use lib.ListN.{length, getD}
 use lib.Seq.{take-all}
-use borrow.Author.Tests.{lt-ltb, ne-eqb}
+use borrow.Author.Tests.{lt-ltb}
 use Rattle.flash.specs.Flash.{block, sizeOf}
 use Rattle.flash.proofs.Cases.{on-test}
 use Rattle.frame.specs.declared.Edition.{Edition}
 use Rattle.frame.specs.declared.Edition.the-variants as edition
 use Rattle.frame.specs.declared.ObjectId.{ObjectId}
-use Rattle.frame.specs.Frame.{hostMax, idMax, valueMax, Change, put, delete, Frame, change, commit, abort, frameLen, endLen}
+use Rattle.frame.specs.Frame.{hostMax, valueMax, Change, put, delete, Frame, change, commit, abort, mapFrame, frameLen, endLen}
 use Rattle.survey.specs.declared.Survey.{Survey}
 use Rattle.journal.specs.Block.{Journal, valid, headerLen, lastTime}
-use Rattle.journal.specs.Replay.{Entry, State, lookup, isOpen, nextState}
+use Rattle.journal.specs.Replay.{Entry, StateOf, State, lookup, isOpen, nextState}
 use Rattle.journal.specs.Room.{used, noRoom, hostFull, spare, pendingFor, pendingOf}
 use Rattle.journal.specs.Index.{placesOf}
 use Rattle.survey.specs.Survey.{surveyOf}
 use Rattle.journal.proofs.PerHost.{per-at, open-bytes}
-use Rattle.survey.proofs.Passing.{pending-grows, pending-ends}
+use Rattle.survey.proofs.Passing.{pending-grows, pending-ends, commit-survey}
 use Rattle.journal.proofs.States.{Contents}
-use Rattle.journal.proofs.Places.{ValueStands, place-law, no-place}
+use Rattle.journal.proofs.Tables.{places-stay}
 use Rattle.wire.specs.declared.Answer.{Answer}
 use Rattle.wire.specs.declared.Answer.the-variants.{Done, More}
 use Rattle.wire.specs.declared.Refusal.{Refusal}
@@ -44,7 +44,8 @@ use Rattle.board.specs.declared.Rest.{Rest}
 use Rattle.board.specs.declared.Record.{Record}
 use Rattle.board.specs.Record.{noFrame, starting, counting, Out, out, refuse, answerOf}
 use Rattle.board.specs.Mount.{replayOf}
-use Rattle.board.specs.Queue.{needsRoom, append, serveChange, serveEnd, convert, convertWith, serveConvert, serveRead, serveLog, serve}
+use Rattle.board.specs.Step.{begin}
+use Rattle.board.specs.Queue.{needsRoom, appendJob, append, serveChange, serveEnd, placesFor, convert, convertWith, serveConvert, serveRead, serveLog, serve}
 use Rattle.board.specs.Queue.{Asking, asking, sizeFor, movesFor, refuseTo}
 use Rattle.board.proofs.Replies.{standing-of}
 use Rattle.job.specs.declared.records.Stepped.{Stepped}
@@ -53,16 +54,20 @@ use Rattle.job.proofs.Entering.{wipe-leaves}
 use Rattle.looks.specs.Surveys.{sumOf}
 use Rattle.looks.specs.Seen.{someOf}
 use Rattle.looks.proofs.Transfers.{any-is}
-use Rattle.serving.specs.Calls.{done, refused, keptOr, began, Asks, bytesOf, appendPlan, appendIn, changeIn, endIn, readIn, logIn}
-use Rattle.serving.specs.Calls.{convertPlan, convertBy, convertIn, serveIn, frameIn, replyIn}
+use Rattle.serving.specs.Calls.{done, refused, keptOr, began, Asks, bytesOf, appendPlan, appendIn, changeIn, endIn, committed, logIn}
+use Rattle.serving.specs.Calls.{convertPlan, convertBy, convertIn, serveIn, placesBy, frameIn, replyIn}
 use Rattle.serving.proofs.Rooms.{no-room-is, full-is, second-is}
 
 -- ---- what a request came to, put together
 
+asks-by : (r : Record) (p : Stepped → List ℕ) (f : List ℕ) (t : Bool) {s u : Stepped} {o x : Out} → Asks r (p s) f s o → Asks r (p u) f u x
+    → Asks r (p (cond t s u)) f (cond t s u) (cond t o x)
+asks-by r p f true a b = a
+asks-by r p f false a b = b
+
 module _ (r : Record) (p f : List ℕ) where
   asks-if : (t : Bool) {s u : Stepped} {o x : Out} → Asks r p f s o → Asks r p f u x → Asks r p f (cond t s u) (cond t o x)
-  asks-if true a b = a
-  asks-if false a b = b
+  asks-if t a b = asks-by r (λ s. p) f t a b
 
   refusing : (img reply : List ℕ) (why : Refusal) → Asks r p f (refused why (r .rest)) (refuse why img r reply)
   refusing img reply why = record { answers = refl; gives = refl; rests = refl }
@@ -80,6 +85,16 @@ module _ (r : Record) (p f : List ℕ) where
             ap₂ (λ (x : Answer) (t : Bool). record { answer = x; next = s .next; ended = t }) a e
             ∙ ap (λ (x : Answer). began x (r .rest) (s .next)) (sym a ∙ l .answers);
       }
+
+-- a read goes by its place
+abbrev pub NoRead : Request → Type 0
+NoRead (Put i) = Unit {0}
+NoRead (Delete i) = Unit {0}
+NoRead Commit = Unit {0}
+NoRead Abort = Unit {0}
+NoRead (Read i) = ⊥
+NoRead (Log p) = Unit {0}
+NoRead Convert = Unit {0}
 
 -- a job that appends a frame has a step
 goes : (y z : Rest) (s : Survey) (m : Bool) (n : ℕ) (c : Cursor) → 0 < n
@@ -105,21 +120,39 @@ module _ (a : Asking) (x : Journal) (same : a .blocks ≡ a .board .rest .blocks
   no : (f : List ℕ) (why : Refusal) → Asks r places f (refused why (r .rest)) (refuseTo a why)
   no f why = refusing r places f (a .image) (a .reply) why
 
-  append-is : (f : Frame) (ps : List ℕ) → pendingOf ed (x .frames ++ (f ∷ [])) ≡ ps
-      → Asks r places (bytesOf ed f) (appendIn (sizeFor a) (r .rest) survey (frameLen ed f) ps) (append a x f)
+  -- the places of a job, by what began: those that the frames will have once one more is appended
+  abbrev Placed : (Stepped → List ℕ) → Frame → Type 0
+  Placed p f =
+      (m : Bool) → p (begins (counting (r .rest) (pendingOf ed (x .frames ++ (f ∷ [])))) (appendPlan (r .rest) survey m (frameLen ed f)) (starting 0 headerLen))
+      ≡ placesFor m x f
+
+  append-is : (p : Stepped → List ℕ) (f : Frame) (ps : List ℕ) → pendingOf ed (x .frames ++ (f ∷ [])) ≡ ps → Placed p f
+      → let s : Stepped = appendIn (sizeFor a) (r .rest) survey (frameLen ed f) ps in Asks r (p s) (bytesOf ed f) s (append a x f)
   unfolding append appendIn surveyOf
-  append-is f ps e =
+  append-is p f ps e d =
       let m : Bool = needsRoom (r .rest .blocks) (a .image) r x f in
       let z : Rest = r .rest in
       let j : Job = appendPlan z survey m (frameLen ed f) in
       let y : Rest = counting z (pendingOf ed (x .frames ++ (f ∷ []))) in
-      let g = goes y z survey m (frameLen ed f) (starting 0 headerLen) (omega arith) in
-      subst (λ (qs : List ℕ). Asks r places (bytesOf ed f) (appendIn (sizeFor a) z survey (frameLen ed f) qs) (append a x f)) e
-      (subst (λ (k : ℕ). Asks r places (bytesOf ed f) (appendIn (sizeOf k (a .image)) z survey (frameLen ed f) (y .pending))
+      let c : Cursor = starting 0 headerLen in
+      let g = goes y z survey m (frameLen ed f) c (omega arith) in
+      let In : ℕ → List ℕ → Stepped = λ k qs. appendIn (sizeOf k (a .image)) z survey (frameLen ed f) qs in
+      subst (λ (qs : List ℕ). Asks r (p (In (a .blocks) qs)) (bytesOf ed f) (In (a .blocks) qs) (append a x f)) e
+      (subst (λ (k : ℕ). Asks r (p (In k (y .pending))) (bytesOf ed f) (In k (y .pending))
       (append (asking k (a .image) r (a .host) (a .message) (a .reply)) x f)) (sym same)
-      (asks-if r places (bytesOf ed f) (m && eqb (x .time) lastTime) (no (bytesOf ed f) refusal.Worn)
+      (asks-by r p (bytesOf ed f) (m && eqb (x .time) lastTime) (refusing r _ _ (a .image) (a .reply) refusal.Worn)
+      (subst (λ (q : List ℕ). Asks r q (bytesOf ed f) (begins y j c) (begin (a .image) (a .reply) (appendJob (r .rest .blocks) (a .image) r x f))) (sym (d m))
       (begun r _ _ (a .image) (a .reply) _ _ (g .0) (g .1)
-      (wipe-leaves places noFrame (bytesOf ed f) (record { phase = Busy Wipe; rest = y; job = j; cursor = starting 0 headerLen })))))
+      (wipe-leaves (placesFor m x f) noFrame (bytesOf ed f) (record { phase = Busy Wipe; rest = y; job = j; cursor = c }))))))
+
+  -- a frame that leaves the objects leaves the places
+  stays : (f : Frame) → ((s : StateOf ℕ) (o : ℕ) → nextState s (mapFrame (λ v. o) f) .objects ≡ s .objects) → Placed (λ s. places) f
+  stays f n true = refl
+  stays f n false = sym (places-stay ed (x .frames) f n)
+
+  change-stays : (c : Change) → Placed (λ s. places) (change (a .host) c)
+  change-stays (put i v) = stays (change (a .host) (put i v)) (λ s o. refl)
+  change-stays (delete i) = stays (change (a .host) (delete i)) (λ s o. refl)
 
   change-is : (c : Change) → a .host .0 ≤ hostMax → Asks r places (bytesOf ed (change (a .host) c))
       (changeIn (sizeFor a) (r .rest) survey (a .host) (frameLen ed (change (a .host) c)) (spare ed c)) (serveChange a x c)
@@ -128,7 +161,7 @@ module _ (a : Asking) (x : Journal) (same : a .blocks ≡ a .board .rest .blocks
       rw (← full-is w (sizeFor a) (a .host) c l, ← no-room-is w (sizeFor a) (a .host) c)
       (asks-if r _ _ (hostFull ed (sizeFor a) (replayOf x) (a .host) c) (no _ refusal.HostFull)
       (asks-if r _ _ (noRoom ed (sizeFor a) (replayOf x) (a .host) c) (no _ refusal.NoRoom)
-      (append-is (change (a .host) c) _ (pending-grows ed (x .frames) (a .host) c l))))
+      (append-is (λ s. places) (change (a .host) c) _ (pending-grows ed (x .frames) (a .host) c l) (change-stays c))))
 
   open-is : a .host .0 ≤ hostMax → isOpen (a .host) (replayOf x .pending) ≡ ltb 0 (getD (survey .pending) (a .host .0) 0)
   unfolding surveyOf
@@ -136,23 +169,24 @@ module _ (a : Asking) (x : Journal) (same : a .blocks ≡ a .board .rest .blocks
       open-bytes ed (a .host) (replayOf x .pending)
       ∙ ap (ltb 0) (sym (per-at (λ g. pendingFor ed g (replayOf x .pending)) (a .host) l))
 
-  end-is : (f : Frame) → frameLen ed f ≡ endLen ed → a .host .0 ≤ hostMax
-      → ((s : State) → nextState s f .pending ≡ nextState s (abort (a .host)) .pending)
-      → Asks r places (bytesOf ed f) (endIn (sizeFor a) (r .rest) survey (a .host)) (serveEnd a x f)
+  end-is : (p : Stepped → List ℕ) (f : Frame) → frameLen ed f ≡ endLen ed → a .host .0 ≤ hostMax
+      → ((s : State) → nextState s f .pending ≡ nextState s (abort (a .host)) .pending) → Placed p f
+      → let s : Stepped = endIn (sizeFor a) (r .rest) survey (a .host) in Asks r (p s) (bytesOf ed f) s (serveEnd a x f)
   unfolding serveEnd endIn surveyOf
-  end-is f e l n =
+  end-is p f e l n d =
       rw (← open-is l, ← e)
-      (asks-if r _ _ (isOpen (a .host) (replayOf x .pending)) (append-is f _ (pending-ends ed (x .frames) f (a .host) l n))
+      (asks-by r p _ (isOpen (a .host) (replayOf x .pending)) (append-is p f _ (pending-ends ed (x .frames) f (a .host) l n) d)
       (doing r _ _ (a .image) (a .reply)))
 
-  read-is : (f : List ℕ) (i : ObjectId) → i .0 ≤ idMax → (o : Option (List ℕ)) → lookup i (replayOf x .objects) ≡ o
-      → Asks r places f (readIn (r .rest) places i) (serveRead a x i o)
-  unfolding readIn
-  read-is f i l none e = rw (no-place ed (x .frames) i l e) (no f refusal.NoObject)
-  read-is f i l (some v) e =
-      let z : ValueStands ed (block (sizeFor a) (r .rest .block) (a .image)) i (getD (placesOf ed (x .frames)) (i .0) 0) v =
-      place-law ed (block (sizeFor a) (r .rest .block) (a .image)) (x .frames) i v (standing-of w) l e in
-      rw (ne-eqb (getD (placesOf ed (x .frames)) (i .0) 0) 0 (λ q. omega (arith, z .past))) (record { answers = refl; gives = refl; rests = refl })
+  abbrev commits : Stepped → List ℕ
+  commits s = committed (block (sizeFor a) (r .rest .block) (a .image)) survey (a .host) s places
+
+  -- a commit's list is applied where no transfer is needed
+  commit-places : a .host .0 ≤ hostMax → Placed commits (commit (a .host))
+  unfolding goWipe goOpen goClose goAppend
+  commit-places l true = refl
+  commit-places l false =
+      rw (lt-ltb 0 (endLen ed) (omega arith)) (commit-survey (block (sizeFor a) (r .rest .block) (a .image)) x (a .host) l (standing-of w))
 
   log-is : (f : List ℕ) (p : Page) → Asks r places f (logIn (r .rest) (a .reply)) (serveLog a x p)
   unfolding serveLog logIn
@@ -187,17 +221,17 @@ module _ (a : Asking) (x : Journal) (same : a .blocks ≡ a .board .rest .blocks
           (asks-if r _ _ (ltb (sizeFor a) (used edition.Second (replayOf x))) (no noFrame refusal.NoRoom) (converts ed))
       go (d ∷ es) e = rw (pending-is (d ∷ es) e) (no noFrame refusal.Pending)
 
-  pub serve-is : (q : Request) (g : List ℕ) → InRange (a .message) q → a .host .0 ≤ hostMax
-      → Asks r places (frameIn ed (a .host) (a .message) q g)
-      (serveIn (sizeFor a) (r .rest) (a .reply) (a .host) (a .message) survey places q) (serve a x q)
+  pub serve-is : (q : Request) (g : List ℕ) → InRange (a .message) q → NoRead q → a .host .0 ≤ hostMax
+      → let s : Stepped = serveIn (sizeFor a) (r .rest) (a .reply) (a .host) (a .message) survey q in
+      Asks r (placesBy (block (sizeFor a) (r .rest .block) (a .image)) survey (a .host) s q places) (frameIn ed (a .host) (a .message) q g) s (serve a x q)
   unfolding serve surveyOf
-  serve-is (Put i) g k l = rw (take-all valueMax (valueIn (a .message)) (k .1)) (change-is (put i (valueIn (a .message))) l)
-  serve-is (Delete i) g k l = change-is (delete i) l
-  serve-is Commit g k l = end-is (commit (a .host)) refl l (λ s. refl)
-  serve-is Abort g k l = end-is (abort (a .host)) refl l (λ s. refl)
-  serve-is (Read i) g k l = read-is g i k (lookup i (replayOf x .objects)) refl
-  serve-is (Log p) g k l = log-is g p
-  serve-is Convert g k l = convert-is
+  serve-is (Put i) g k n l = rw (take-all valueMax (valueIn (a .message)) (k .1)) (change-is (put i (valueIn (a .message))) l)
+  serve-is (Delete i) g k n l = change-is (delete i) l
+  serve-is Commit g k n l = end-is commits (commit (a .host)) refl l (λ s. refl) (commit-places l)
+  serve-is Abort g k n l = end-is (λ s. places) (abort (a .host)) refl l (λ s. refl) (stays (abort (a .host)) (λ s o. refl))
+  serve-is (Read i) g k n l = absurd n
+  serve-is (Log p) g k n l = log-is g p
+  serve-is Convert g k n l = convert-is
 
   -- ---- the reply
 

@@ -8,9 +8,9 @@ use lib.ListN.{length, getD, set, take}
 use Rattle.frame.specs.declared.Edition.{Edition}
 use Rattle.frame.specs.declared.Edition.the-variants as edition
 use Rattle.frame.specs.declared.Host.{Host}
-use Rattle.frame.specs.declared.ObjectId.{ObjectId}
 use Rattle.frame.specs.Frame.{valueMax, put, delete, Frame, change, commit, abort, frameLen, deleteLen, endLen, encode, buffer, editionNumber}
 use Rattle.survey.specs.declared.Survey.{Survey}
+use Rattle.survey.specs.Pass.{commitIn}
 use Rattle.journal.specs.Block.{headerLen, lastTime}
 use Rattle.journal.specs.Room.{one}
 use Rattle.wire.specs.declared.Answer.{Answer}
@@ -123,8 +123,9 @@ changeIn size z s h n spare =
 unfoldable pub endIn : ℕ → Rest → Survey → Host → Stepped
 endIn size z s h = cond (ltb 0 (getD (s .pending) (h .0) 0)) (appendIn size z s (endLen (s .edition)) (set (s .pending) (h .0) 0)) (done z)
 
-unfoldable pub readIn : Rest → List ℕ → ObjectId → Stepped
-readIn z places i = cond (eqb (getD places (i .0) 0) 0) (refused refusal.NoObject z) (done z)
+-- the places after a commit: where no job began or one that moves they stay, else its list is applied (document 02, K8)
+abbrev pub committed : List ℕ → Survey → Host → Stepped → List ℕ → List ℕ
+committed b s h r t = cond (r .ended) t (cond (r .next .job .moves) t (commitIn b s h t))
 
 unfoldable pub logIn : Rest → List ℕ → Stepped
 logIn z reply = cond (ltb (length reply) pageLen) (refused refusal.ShortReply z) (done z)
@@ -157,15 +158,26 @@ convertIn size z s =
     cond (ltb 0 (sumOf (s .pending))) (refused refusal.Pending z)
     (cond (ltb size (secondIn (s .edition) s)) (refused refusal.NoRoom z) (convertBy z s (s .edition)))
 
-abbrev pub serveIn : ℕ → Rest → List ℕ → Host → List ℕ → Survey → List ℕ → Request → Stepped
-serveIn size z reply h m s places (Put i) =
+-- no read: that goes by its place
+abbrev pub serveIn : ℕ → Rest → List ℕ → Host → List ℕ → Survey → Request → Stepped
+serveIn size z reply h m s (Put i) =
     let ed : Edition = s .edition in changeIn size z s h (frameLen ed (change h (put i (valueIn m)))) (deleteLen ed + endLen ed)
-serveIn size z reply h m s places (Delete i) = changeIn size z s h (deleteLen (s .edition)) 0
-serveIn size z reply h m s places Commit = endIn size z s h
-serveIn size z reply h m s places Abort = endIn size z s h
-serveIn size z reply h m s places (Read i) = readIn z places i
-serveIn size z reply h m s places (Log p) = logIn z reply
-serveIn size z reply h m s places Convert = convertIn size z s
+serveIn size z reply h m s (Delete i) = changeIn size z s h (deleteLen (s .edition)) 0
+serveIn size z reply h m s Commit = endIn size z s h
+serveIn size z reply h m s Abort = endIn size z s h
+serveIn size z reply h m s (Read i) = done z
+serveIn size z reply h m s (Log p) = logIn z reply
+serveIn size z reply h m s Convert = convertIn size z s
+
+-- the job's places, of block b: only a commit's differ
+abbrev pub placesBy : List ℕ → Survey → Host → Stepped → Request → List ℕ → List ℕ
+placesBy b s h r (Put i) t = t
+placesBy b s h r (Delete i) t = t
+placesBy b s h r Commit t = committed b s h r t
+placesBy b s h r Abort t = t
+placesBy b s h r (Read i) t = t
+placesBy b s h r (Log p) t = t
+placesBy b s h r Convert t = t
 
 -- the bytes of a frame
 abbrev pub bytesOf : Edition → Frame → List ℕ

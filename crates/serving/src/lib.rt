@@ -1,11 +1,16 @@
 // The requests, once nothing earlier refuses them.
 ghost use mathlib.Core.Path.{_≡_};
-ghost use lib.ListN.{getD};
+ghost use Prim.Native.Nat.{_≤_};
+ghost use lib.ListN.{length, take, getD};
 ghost use Rattle.frame.specs.declared.Edition.the-variants as edition;
+ghost use Rattle.frame.specs.Frame.{valueMax};
+ghost use Rattle.frame.specs.Code.{frameOf};
+ghost use Rattle.journal.specs.Block.{blockMax};
 ghost use Rattle.wire.specs.declared.Parsed.the-variants.{Is};
 ghost use Rattle.wire.specs.Message.{parse};
 ghost use Rattle.board.specs.Record.{counting};
-ghost use Rattle.serving.specs.Calls.{done, refused, appendIn, changeIn, endIn, readIn, logIn, convertIn, convertBy, serveIn, replyIn, replyLog, frameIn};
+ghost use Rattle.serving.specs.Calls.{done, refused, appendIn, changeIn, endIn, committed, logIn, convertIn, convertBy};
+ghost use Rattle.serving.specs.Calls.{serveIn, placesBy, replyIn, replyLog, bytesOf, frameIn};
 
 pub mod room;
 
@@ -131,13 +136,23 @@ fn serve_end(size: usize, rest: Rest, s: Survey, host: Host) -> Stepped
     )
 }
 
-fn serve_read(rest: Rest, places: &[u16; 256], id: ObjectId) -> Stepped
-    ensures { λ r. ⌜ r ≡ readIn rest (now (places .entry)) id ⌝ }
+// A commit. Its list is applied to the places, unless a transfer is to place what it copies.
+fn serve_commit(block: &[u8], rest: Rest, s: Survey, host: Host, places: &mut [u16; 256]) -> Stepped
+    requires { ⌜ (s .end ≤ length (now block)) × (length (now block) ≤ blockMax) ⌝ }
+    ensures { λ r. ⌜ (r ≡ endIn (length (now (block .entry))) rest s host)
+        × (now (places .exit) ≡ committed (now (block .entry)) s host r (now (places .entry))) ⌝ }
 {
-    if place_of(places, id) == 0 {
-        return refused(Refusal::NoObject, rest);
+    let begun = serve_end(block.len(), rest, s, host);
+    if begun.ended {
+        return begun;
     }
-    done(rest)
+    let next = begun.next;
+    let job = next.job;
+    if job.moves {
+        return begun;
+    }
+    survey::commit(block, s, host, places);
+    begun
 }
 
 fn serve_log(size: u16, rest: Rest, s: Survey, page: Page, reply: &mut [u8]) -> Stepped
@@ -195,6 +210,13 @@ fn serve_convert(size: usize, rest: Rest, s: Survey) -> Stepped
     }
 }
 
+// A frame's bytes. Of its own, so that the stack has them once and not for each kind.
+fn lay(edition: Edition, head: Head, value: &[u8], frame: &mut [u8; BUFFER_LEN])
+    ensures { λ _. ⌜ now (frame .exit) ≡ bytesOf edition (frameOf head (take valueMax (now (value .entry)))) ⌝ }
+{
+    *frame = frame::encode_frame(edition, head, value);
+}
+
 // The frame that a message asks to append, none for a convert; for a read or a log the buffer stays.
 fn lay_frame(
     edition: Edition,
@@ -207,37 +229,39 @@ fn lay_frame(
 {
     let value = wire::value(message);
     match ask {
-        Request::Put(id) => *frame = frame::encode_frame(edition, Head::Put(host, id, 0), value),
-        Request::Delete(id) => *frame = frame::encode_frame(edition, Head::Delete(host, id), value),
-        Request::Commit => *frame = frame::encode_frame(edition, Head::Commit(host), value),
-        Request::Abort => *frame = frame::encode_frame(edition, Head::Abort(host), value),
+        Request::Put(id) => lay(edition, Head::Put(host, id, 0), value, frame),
+        Request::Delete(id) => lay(edition, Head::Delete(host, id), value, frame),
+        Request::Commit => lay(edition, Head::Commit(host), value, frame),
+        Request::Abort => lay(edition, Head::Abort(host), value, frame),
         Request::Read(_) => return,
         Request::Log(_) => return,
         Request::Convert => *frame = records::no_frame(),
     }
 }
 
-// What a message asks for, done: the job's numbers, and its frame.
+// What a message asks for, done: the job's numbers, its places and its frame. A read goes by its place: it is not for here.
 pub fn serve(
-    size: u16,
+    block: &[u8],
     rest: Rest,
     host: Host,
     message: &[u8],
     reply: &mut [u8],
     s: Survey,
-    places: &[u16; 256],
+    places: &mut [u16; 256],
     frame: &mut [u8; BUFFER_LEN],
     ask: Request,
 ) -> Stepped
-    requires { ⌜ parse (now message) ≡ Is ask ⌝ }
-    ensures { λ r. ⌜ (r ≡ serveIn size rest (now (reply .entry)) host (now (message .entry)) s (now (places .entry)) ask)
-        × (now (reply .exit) ≡ replyIn size s (now (reply .entry)) ask)
+    requires { ⌜ (parse (now message) ≡ Is ask) × (s .end ≤ length (now block)) × (length (now block) ≤ blockMax) ⌝ }
+    ensures { λ r. ⌜ (r ≡ serveIn (length (now (block .entry))) rest (now (reply .entry)) host (now (message .entry)) s ask)
+        × (now (reply .exit) ≡ replyIn (length (now (block .entry))) s (now (reply .entry)) ask)
+        × (now (places .exit) ≡ placesBy (now (block .entry)) s host r ask (now (places .entry)))
         × (now (frame .exit) ≡ frameIn (s .edition) host (now (message .entry)) ask (now (frame .entry))) ⌝ }
 {
     let edition = s.edition;
     let n = room::change_len(edition);
     lay_frame(edition, host, message, ask, frame);
-    let room = size as usize;
+    let room = block.len();
+    let size = room as u16;
     match ask {
         Request::Put(_) => {
             let v = wire::value(message).len() as u8;
@@ -245,9 +269,9 @@ pub fn serve(
             return serve_change(size, rest, s, host, n + v, n + room::end_len(edition));
         }
         Request::Delete(_) => return serve_change(size, rest, s, host, n, 0),
-        Request::Commit => return serve_end(room, rest, s, host),
+        Request::Commit => return serve_commit(block, rest, s, host, places),
         Request::Abort => return serve_end(room, rest, s, host),
-        Request::Read(id) => return serve_read(rest, places, id),
+        Request::Read(_) => return done(rest),
         Request::Log(page) => return serve_log(size, rest, s, page, reply),
         Request::Convert => return serve_convert(room, rest, s),
     }

@@ -12,6 +12,8 @@ use Rattle.flash.specs.Flash.{blockNumbers, block, sizeOf}
 use Rattle.flash.proofs.Cases.{on-test}
 use Rattle.frame.specs.Frame.{editionNumber}
 use Rattle.journal.specs.Block.{lastTime}
+use Rattle.wire.specs.declared.Answer.{Answer}
+use Rattle.wire.specs.declared.Answer.the-variants.{Done, More, Refused}
 use Rattle.wire.specs.declared.Refusal.{Refusal}
 use Rattle.wire.specs.declared.Refusal.the-variants as refusal
 use Rattle.board.specs.declared.Stage.{Stage}
@@ -37,7 +39,7 @@ use Rattle.looks.specs.declared.looks.Newest.{Newest}
 use Rattle.looks.specs.declared.looks.Tie.{Tie}
 use Rattle.looks.specs.declared.looks.Seen.{Seen}
 use Rattle.store.specs.declared.mends.Mend.{Mend}
-use Rattle.store.specs.Calls.{made, ends, Gives, refused}
+use Rattle.store.specs.Calls.{made, ends, placesAfter, Gives, refused}
 use Rattle.store.specs.Mends.{mendIn, resetIn}
 use Rattle.looks.specs.Seen.{erasesOf, othersIn, newestIn, tieIn, storePlaces, placesFor, Sees}
 use Rattle.store.specs.Mounts.{mountPlan, mountIn, mountTaken, mountSeen, lastErased, orderBy}
@@ -62,7 +64,7 @@ refusal-given why e d n m = rw (e, d, n, m) (record { answers = refl; gives = re
 -- what a call came to, by the places of the block that is taken and the frame to append, which is the job's reset
 record Came (p f : List ℕ) (s : Stepped) (o : Out) : Type 0 where
   answers : s .answer ≡ o .answer
-  gives : leaves s p noFrame f ≡ o .board
+  gives : leaves s (placesAfter (s .answer) p) noFrame f ≡ o .board
   ended : s .ended ≡ ends (s .answer)
   lays : resetIn (s .next .job) ≡ cond (s .ended) noFrame f
 
@@ -90,24 +92,34 @@ beginning img p {f} z j c e =
     let l = wipe-leaves p noFrame f n in
     record {
       answers = l .answers;
-      gives = l .gives;
+      gives =
+          ap (λ (q : List ℕ). leaves (goWipe n) q noFrame f) (when-begun (λ (s : Stepped). placesAfter (s .answer) p ≡ p) n (λ g. refl) refl) ∙ l .gives;
       ended = when-begun (λ (s : Stepped). s .ended ≡ ends (s .answer)) n (λ g. refl) refl;
       lays = when-begun (λ (s : Stepped). resetIn (s .next .job) ≡ cond (s .ended) noFrame f) n (λ g. e) refl;
     }
 
--- only a job needs the places
-came-gives : (q f : List ℕ) (s : Stepped) (o : Out) → Came q f s o → Gives (cond (s .ended) noPlaces q) (resetIn (s .next .job)) s o
+came-gives : (q f : List ℕ) (s : Stepped) (o : Out) → Came q f s o → Gives (placesAfter (s .answer) q) (resetIn (s .next .job)) s o
 came-gives q f s o x =
     record { answers = x .answers; gives = rw (x .lays) (by (s .ended) (x .gives)); ended = x .ended ∙ ap ends (x .answers) }
   where
-    by : (t : Bool) → leavesIf t (s .next) q noFrame f ≡ o .board
-        → assemble (s .next) (cond t noPlaces q) noFrame (cond t noFrame f) ≡ o .board
+    by : (t : Bool) → leavesIf t (s .next) (placesAfter (s .answer) q) noFrame f ≡ o .board
+        → assemble (s .next) (placesAfter (s .answer) q) noFrame (cond t noFrame f) ≡ o .board
     by true e = e
     by false e = e
 
 bare-gives : (s : Stepped) (o : Out) → Came noPlaces noFrame s o → Gives noPlaces noFrame s o
-bare-gives s o x = record { answers = x .answers; gives = by (s .ended) (x .gives); ended = x .ended ∙ ap ends (x .answers) }
+bare-gives s o x =
+    record {
+      answers = x .answers;
+      gives = by (s .ended) (sym (ap (λ (q : List ℕ). leaves s q noFrame noFrame) (none (s .answer))) ∙ x .gives);
+      ended = x .ended ∙ ap ends (x .answers);
+    }
   where
+    none : (a : Answer) → placesAfter a noPlaces ≡ noPlaces
+    none Done = refl
+    none More = refl
+    none (Refused n) = refl
+
     by : (t : Bool) → leavesIf t (s .next) noPlaces noFrame noFrame ≡ o .board → assemble (s .next) noPlaces noFrame noFrame ≡ o .board
     by true e = e
     by false e = e
@@ -144,7 +156,7 @@ module _ (N : ℕ) (img p : List ℕ) where
       rw (e (newest y ys .number)) (came-if _ _ (equalTimes (y ∷ ys)) (refusing img _ _ (tiedTimes (lowestTied (y ∷ ys)))) (mount-with xs y ys h))
 
   pub mount-is : {z : Seen} {q : List ℕ} → allowed N (length img) ≡ true → Bytes img → Sees N img p z q
-      → Gives (cond (mountSeen N img z .ended) noPlaces q) (resetIn (mountSeen N img z .next .job)) (mountSeen N img z) (mountOn N img)
+      → Gives (placesAfter (mountSeen N img z .answer) q) (resetIn (mountSeen N img z .next .job)) (mountSeen N img z) (mountOn N img)
   unfolding mountSeen
   mount-is {z} {q} a b x = came-gives q (frameFor (stores (allFound N img))) (mountSeen N img z) (mountOn N img) (rw (mount-stores N img a, x .places) by)
     where

@@ -1,6 +1,6 @@
 // Mount and format.
 ghost use mathlib.Core.Path.{_≡_};
-ghost use mathlib.Core.Bool.{true, cond};
+ghost use mathlib.Core.Bool.{true};
 ghost use Prim.Native.Nat.{_+_, _≤_};
 ghost use lib.ListN.{length};
 ghost use Rattle.flash.specs.Flash.{maxBlocks};
@@ -8,7 +8,7 @@ ghost use Rattle.journal.specs.Block.{blockMax};
 ghost use Rattle.board.specs.Record.{allowed, noPlaces, noFrame, Out};
 ghost use Rattle.board.specs.Mount.{tiedTimes, mountOn, formatOrder, formatOn};
 ghost use Rattle.looks.specs.Seen.{erasesOf};
-ghost use Rattle.store.specs.Calls.{Gives, made, refused};
+ghost use Rattle.store.specs.Calls.{Gives, made, placesAfter, refused};
 ghost use Rattle.store.specs.Mounts.{mountIn, mountSeen, lastErased, orderBy};
 use crate::mends;
 use crate::mends::Mend;
@@ -121,12 +121,14 @@ fn mount_seen(image: &[u8], blocks: u8, z: Seen) -> Stepped
     mount_at(blocks, (image.len() - 1) as u16, w, list, m)
 }
 
-// Only a job needs the places.
-fn drop_places(ended: bool, places: &mut [u16; 256])
-    ensures { λ r. ⌜ now (places .exit) ≡ cond ended noPlaces (now (places .entry)) ⌝ }
+// A refused mount leaves no places.
+fn drop_places(answer: Answer, places: &mut [u16; 256])
+    ensures { λ r. ⌜ now (places .exit) ≡ placesAfter answer (now (places .entry)) ⌝ }
 {
-    if ended {
-        *places = records::no_places();
+    match answer {
+        Answer::Done => return,
+        Answer::More => return,
+        Answer::Refused(_) => *places = records::no_places(),
     }
 }
 
@@ -146,7 +148,8 @@ pub fn mount_core(
     }
     let seen = looks::look(image, blocks, places);
     let s = mount_seen(image, blocks, seen);
-    drop_places(s.ended, places);
+    let answer = s.answer;
+    drop_places(answer, places);
     mends::lay_reset(s, frame);
     s
 }

@@ -19,7 +19,8 @@ use Rattle.frame.specs.Code.{headOf, peekAt, headLen}
 use Rattle.frame.proofs.Encode.{check-short, length-encode}
 use Rattle.frame.proofs.Exact.{read-back}
 use Rattle.frame.proofs.Heads.{head-len, peek-whole}
-use Rattle.survey.specs.Pass.{placeFrame, commitPlaces, placeHead, commitHeads}
+use Rattle.journal.proofs.Tables.{placeFrame, commitPlaces}
+use Rattle.survey.specs.Pass.{placeHead, commitHeads}
 
 place-head : (h : Host) (d o : ℕ) (f : Frame) (t : List ℕ) → d ≤ o → placeFrame h d o f t ≡ placeHead h o (headOf f) t
 unfolding placeHead

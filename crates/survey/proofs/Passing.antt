@@ -18,15 +18,18 @@ use Rattle.frame.proofs.Encode.{length-all, encode-append, encode-snoc, total-s
 use Rattle.frame.proofs.Encode.{next-append}
 use Rattle.frame.proofs.Scanning.{pushAll}
 use Rattle.survey.specs.declared.Progress.{Progress}
-use Rattle.journal.specs.Block.{headerLen}
+use Rattle.journal.specs.Block.{headerLen, Journal, valid}
 use Rattle.journal.specs.Replay.{Entry, State, lookup, listOf, nextState, replay, replayFrom}
 use Rattle.journal.specs.Index.{sited, placesFrom, placesOf, isEnd, pick, sinceFrom, sinceHost, sinceOf}
 use Rattle.journal.specs.Room.{perHost, pendingFor, countsIn, pendingOf}
-use Rattle.survey.specs.Pass.{commitPlaces, commitHeads, recommit, progress, progressOf, grown, ended, endedAll, passed, tookFrame, tookPlaces}
+use Rattle.journal.proofs.Tables.{commitPlaces, places-stay, places-commit, places-settled}
+use Rattle.survey.specs.Survey.{surveyOf, placesIn}
+use Rattle.survey.specs.Pass.{commitHeads, recommit, progress, progressOf, grown, ended, endedAll, passed, tookFrame, tookPlaces, commitIn}
 use Rattle.journal.proofs.Replaying.{replay-snoc}
 use Rattle.journal.proofs.Pending.{since-snoc, since-at}
+use Rattle.journal.proofs.Places.{Standing}
 use Rattle.survey.proofs.Committing.{heads-whole}
-use Rattle.survey.proofs.Indexing.{places-stay, places-commit, places-settled, Boundary, boundary, commit-from}
+use Rattle.survey.proofs.Indexing.{Boundary, boundary, commit-from}
 use Rattle.journal.proofs.PerHost.{per-set, per-same, per-at, bytes-own, bytes-other, bytes-ended, bytes-kept, counts-none}
 use Rattle.fetch.proofs.FrameReads.{whole-stands, whole-bytes, scan-whole-at, drop-take}
 
@@ -146,6 +149,19 @@ commit-again ed b fs h l g s =
     ∙ ap (λ (m : ℕ). commitPlaces ed h d m t hs) (sym (y .lies))
     ∙ sym (ap (commitHeads ed h d 0 t) e ∙ heads-whole ed h d d (nextOf 0 gs) t hs (omega arith) (stands-after ed 0 gs hs (rw (← y .split) g)))
     ∙ ap (λ (m : ℕ). recommit ed (take (headerLen + total ed fs) b) h m t) (sym (since-at ed fs h l))
+
+-- a block in which the frames stand after a header
+starts-standing : (ed : Edition) (b : List ℕ) (fs : List Frame) → Standing ed b fs → Starts ed b fs
+starts-standing ed b fs y =
+    let e : drop headerLen b ≡ encodeAll ed fs ++ y .rest = ap (drop headerLen) (y .split) ∙ drop-at (y .head) (encodeAll ed fs ++ y .rest) headerLen (y .long) in
+    e ∙ ap (λ (x : List ℕ). encodeAll ed fs ++ x)
+    (sym (sym (drop-drop (total ed fs) headerLen b) ∙ ap (drop (total ed fs)) e ∙ drop-at (encodeAll ed fs) (y .rest) (total ed fs) (length-all ed fs)))
+
+-- a commit after the frames of a valid block, by its survey
+pub commit-survey : (b : List ℕ) (x : Journal) (h : Host) → h .0 ≤ hostMax → Standing (x .edition) b (x .frames)
+    → commitIn b (surveyOf (valid x)) h (placesIn (valid x)) ≡ placesOf (x .edition) (x .frames ++ (commit h ∷ []))
+unfolding surveyOf
+commit-survey b x h l y = sym (commit-again (x .edition) b (x .frames) h l (y .stand) (starts-standing (x .edition) b (x .frames) y))
 
 places-step : (ed : Edition) (b : List ℕ) (fs : List Frame) (f : Frame) → AllMayStand ed 0 fs → MayStand ed (nextOf 0 fs) f → Starts ed b fs
     → placesOf ed (fs ++ (f ∷ [])) ≡ tookPlaces ed b (progressOf ed fs) (headOf f) (placesOf ed fs)

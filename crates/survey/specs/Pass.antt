@@ -1,9 +1,9 @@
 -- How the code passes over a block: proofs/Passing.antt, Surveying.antt and HeadLaws.antt tie it to what a survey says.
 use mathlib.Core.List.{List, [], _∷_}
 use mathlib.Core.Option.{Option, none, some}
-use mathlib.Core.Bool.{Bool, true, false, _&&_}
+use mathlib.Core.Bool.{true, false}
 use Prim.Native.Nat.{ℕ, zero, suc, _+_, _-_}
-use lib.Dec.{eqb, leb}
+use lib.Dec.{eqb}
 use lib.ListN.{length, getD, take, drop, set}
 use Rattle.frame.specs.declared.Edition.{Edition}
 use Rattle.frame.specs.declared.Edition.the-variants as edition
@@ -11,7 +11,7 @@ use Rattle.frame.specs.declared.Host.{Host}
 use Rattle.frame.specs.declared.Fault.{Fault}
 use Rattle.frame.specs.declared.Head.{Head}
 use Rattle.frame.specs.declared.Head.the-variants as head
-use Rattle.frame.specs.Frame.{ChangeOf, put, delete, Frame, change, commit, abort, settled, closed, reset, mapChange, frameLen}
+use Rattle.frame.specs.Frame.{put, delete, Frame, change, commit, abort, settled, closed, reset}
 use Rattle.frame.specs.Frame.{putLen, deleteLen, endLen, settledLen, closedLen, resetLen, total, nextOf}
 use Rattle.frame.specs.Reader.{clean, cut, bad, Scan, scan}
 use Rattle.frame.specs.Reader.{Tail as ScanTail}
@@ -27,7 +27,7 @@ use Rattle.survey.specs.declared.BlockKind.the-variants as kind
 use Rattle.survey.specs.declared.Tally.{Tally}
 use Rattle.survey.specs.declared.Survey.{Survey}
 use Rattle.journal.specs.Block.{headerLen, createdAt}
-use Rattle.journal.specs.Index.{sinceOf}
+use Rattle.journal.specs.Index.{sinceOf, placeIf}
 use Rattle.journal.specs.Room.{perHost, pendingOf}
 
 -- the header's first fault, if it has one
@@ -41,29 +41,7 @@ headerOf (some e) = Bad e
 abbrev pub scanBlock : Edition → List ℕ → Scan
 scanBlock ed b = scan ed 0 headerLen 0 (drop headerLen b)
 
--- what a change of a frame at offset p does: a put's place is p, and a delete leaves none
-abbrev pub placeChange : ChangeOf ℕ → List ℕ → List ℕ
-placeChange (put i p) t = set t (i .0) p
-placeChange (delete i) t = set t (i .0) 0
-
-abbrev pub placeIf : Bool → ChangeOf ℕ → List ℕ → List ℕ
-placeIf true c t = placeChange c t
-placeIf false c t = t
-
--- what a frame at offset o does in a commit of host h, whose pending part starts at d
-abbrev pub placeFrame : Host → ℕ → ℕ → Frame → List ℕ → List ℕ
-placeFrame h d o (change g c) t = placeIf (eqb (h .0) (g .0) && leb d o) (mapChange (λ v. o) c) t
-placeFrame h d o (commit g) t = t
-placeFrame h d o (abort g) t = t
-placeFrame h d o (settled i v) t = t
-placeFrame h d o (closed v) t = t
-placeFrame h d o reset t = t
-
-unfoldable pub commitPlaces : Edition → Host → ℕ → ℕ → List ℕ → List Frame → List ℕ
-commitPlaces ed h d o t [] = t
-commitPlaces ed h d o t (f ∷ fs) = commitPlaces ed h d (o + frameLen ed f) (placeFrame h d o f t) fs
-
--- the same by the frame's head, where d ≤ o
+-- what a frame of a head at offset o does in a commit of host h: `journal/Tables: placeFrame`, where the host's pending part starts at or before it
 unfoldable pub placeHead : Host → ℕ → Head → List ℕ → List ℕ
 placeHead h o (head.Put g i n) t = placeIf (eqb (h .0) (g .0)) (put i o) t
 placeHead h o (head.Delete g i) t = placeIf (eqb (h .0) (g .0)) (delete i) t
@@ -177,3 +155,7 @@ foundSurvey ed b places p n =
       count = t .count;
       used = t .used;
     }
+
+-- a commit of host h after the frames of a block, by its survey: the places that it leaves
+abbrev pub commitIn : List ℕ → Survey → Host → List ℕ → List ℕ
+commitIn b s h t = recommit (s .edition) (take (s .end) b) h (getD (s .since) (h .0) 0) t

@@ -10,7 +10,7 @@ ghost use Rattle.journal.specs.Block.{headerLen, blockMax, foreign, ofHeader, b
 ghost use Rattle.journal.specs.Index.{placesOf};
 ghost use Rattle.survey.specs.Survey.{surveyOf, placesIn, stateOf};
 ghost use Rattle.journal.specs.Room.{perHost};
-ghost use Rattle.survey.specs.Pass.{scanBlock, lengthsAt, tallyOf, progress, walkOf, emptySurvey, foundSurvey};
+ghost use Rattle.survey.specs.Pass.{scanBlock, lengthsAt, tallyOf, progress, walkOf, emptySurvey, foundSurvey, commitIn};
 use crate::BlockKind;
 use crate::HeaderCheck;
 use crate::Progress;
@@ -24,6 +24,7 @@ use frame::Edition;
 use frame::Fault;
 use frame::Field;
 use frame::FrameRead;
+use frame::Host;
 use frame::SETTLED_LEN;
 use journal::BLOCK_MAX;
 use journal::HEADER_LEN;
@@ -220,4 +221,14 @@ pub fn survey_block(block: &[u8], places: &mut [u16; 256]) -> Survey
         return no_half(places);
     }
     survey_half(block, places)
+}
+
+// A host's commit after the frames of a block with this survey: its list applied to the places.
+pub fn commit(block: &[u8], s: Survey, host: Host, places: &mut [u16; 256])
+    requires { ⌜ (s .end ≤ length (now block)) × (length (now block) ≤ blockMax) ⌝ }
+    ensures { λ _. ⌜ now (places .exit) ≡ commitIn (now (block .entry)) s host (now (places .entry)) ⌝ }
+{
+    let edition = s.edition;
+    let since = s.since;
+    pass::commit_at(block, edition, s.end, since, host, places);
 }

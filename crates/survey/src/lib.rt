@@ -3,6 +3,7 @@ mod block;
 mod header;
 mod pass;
 
+pub use block::commit;
 pub use block::survey_block;
 use frame::Edition;
 use frame::Fault;

@@ -1,7 +1,7 @@
 // What each frame of a block adds to what was found before it.
 ghost use mathlib.Core.Path.{_≡_};
 ghost use Prim.Native.Nat.{ℕ, _+_, _≤_, _<_};
-ghost use lib.ListN.{length, getD, set};
+ghost use lib.ListN.{length, getD, take, set};
 ghost use Rattle.frame.specs.Code.{headLen};
 ghost use Rattle.journal.specs.Block.{blockMax};
 ghost use Rattle.survey.specs.Pass.{placeHead, recommit, grown, ended, endedAll, passed, tookFrame, tookPlaces};
@@ -60,6 +60,23 @@ fn commit_own(part: &[u8], edition: Edition, host: Host, since: usize, places: &
         place_own(places, host, at as u16, head);
         at = at + frame::frame_len(edition, head);
     }
+}
+
+// The same where a block's frames end, by all hosts' `since`.
+pub fn commit_at(
+    block: &[u8],
+    edition: Edition,
+    end: u16,
+    since: [u16; 4],
+    host: Host,
+    places: &mut [u16; 256],
+)
+    requires { ⌜ (end ≤ length (now block)) × (length (now block) ≤ blockMax) ⌝ }
+    ensures { λ _. ⌜ now (places .exit) ≡ recommit edition (take end (now (block .entry))) host (getD since (host .0) 0) (now (places .entry)) ⌝ }
+{
+    let e = end as usize;
+    let from = fetch::of_host(since, host) as usize;
+    commit_own(&block[..e], edition, host, from, places);
 }
 
 // A host's change of n bytes.
@@ -142,10 +159,8 @@ pub fn take_frame(
         Head::Put(host, _, _) => grow(p, host, size),
         Head::Delete(host, _) => grow(p, host, size),
         Head::Commit(host) => {
-            let all = p.since;
-            let since = fetch::of_host(all, host) as usize;
-            let e = end as usize;
-            commit_own(&block[..e], edition, host, since, places);
+            let since = p.since;
+            commit_at(block, edition, end, since, host, places);
             end_list(p, host, size)
         }
         Head::Abort(host) => end_list(p, host, size),

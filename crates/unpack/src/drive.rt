@@ -1,10 +1,11 @@
 // What a step needs of a record's bytes: its numbers, and of its arrays what it looks at.
 ghost use mathlib.Core.Path.{_≡_};
-ghost use lib.ListN.{drop, getD};
+ghost use lib.ListN.{length, drop, getD};
 ghost use Rattle.frame.specs.Frame.{bufferLen};
 ghost use Rattle.job.specs.Code.{numbersOf, inHand};
 ghost use Rattle.lent.specs.Layout.{bytesIn, recordIn};
 use crate::cursor_in;
+use crate::fill_places;
 use crate::frame_in;
 use crate::job_in;
 use crate::phase_of;
@@ -34,6 +35,15 @@ pub fn places(bytes: &[u8]) -> [u16; 256]
     ensures { λ r. ⌜ r ≡ recordIn (now (bytes .entry)) .places ⌝ }
 {
     places_in(tail(bytes, lent::PLACES_AT))
+}
+
+// An inner part of the C library: the places into an array that is lent, which has 256 by its type. By value they would stand on the
+// stack twice.
+pub fn read_places(bytes: &[u8], places: &mut [u16; 256])
+    requires { ⌜ length (now places) ≡ 256 ⌝ }
+    ensures { λ _. ⌜ now (places .exit) ≡ recordIn (now (bytes .entry)) .places ⌝ }
+{
+    fill_places(tail(bytes, lent::PLACES_AT), places);
 }
 
 pub fn unit(bytes: &[u8]) -> [u8; BUFFER_LEN]

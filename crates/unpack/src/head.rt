@@ -1,5 +1,6 @@
-// Where a record stands: all that a request or a read looks at.
+// Where a record stands, and the place of one id: all that a read looks at.
 ghost use mathlib.Core.Path.{_≡_};
+ghost use lib.ListN.{getD};
 ghost use Rattle.lent.specs.Layout.{recordIn};
 use crate::four_in;
 use crate::phase_in;
@@ -8,6 +9,7 @@ use crate::word_in;
 use board::Phase;
 use board::Rest;
 use flash::byte_at;
+use frame::ObjectId;
 
 pub fn phase_of(bytes: &[u8]) -> Phase
     ensures { λ r. ⌜ r ≡ recordIn (now (bytes .entry)) .phase ⌝ }
@@ -27,4 +29,15 @@ pub fn rest_of(bytes: &[u8]) -> Rest
         pending: pending,
         edition: byte_at(bytes, lent::EDITION_AT),
     }
+}
+
+// 0 for an id past the last.
+pub fn place_of(bytes: &[u8], id: ObjectId) -> u16
+    ensures { λ r. ⌜ r ≡ getD (recordIn (now (bytes .entry)) .places) (id .0) 0 ⌝ }
+{
+    let i = id.0 as usize;
+    if i < 256 {
+        return word_in(bytes, lent::PLACES_AT + 2 * i);
+    }
+    0
 }

@@ -12,16 +12,18 @@ pub use drive::append_byte;
 pub use drive::in_hand;
 pub use drive::numbers;
 pub use drive::places;
+pub use drive::read_places;
 pub use drive::unit;
 pub use drive::unit_byte;
 use flash::MAX_BLOCKS;
 use flash::byte_at;
 use frame::BUFFER_LEN;
 pub use head::phase_of;
+pub use head::place_of;
 pub use head::rest_of;
 use wire::word_at;
 ghost use mathlib.Core.Path.{_≡_};
-ghost use lib.ListN.{take, drop};
+ghost use lib.ListN.{length, take, drop};
 ghost use Rattle.flash.specs.Flash.{maxBlocks};
 ghost use Rattle.frame.specs.Frame.{bufferLen};
 ghost use Rattle.wire.specs.Message.{wordAt};
@@ -73,31 +75,38 @@ fn phase_in(number: u8) -> Phase
 }
 
 // The places where the bytes may end among them.
-fn places_short(bytes: &[u8]) -> [u16; 256]
-    ensures { λ r. ⌜ r ≡ wordsIn 256 (now (bytes .entry)) ⌝ }
+fn places_short(bytes: &[u8], words: &mut [u16; 256])
+    requires { ⌜ length (now words) ≡ 256 ⌝ }
+    ensures { λ _. ⌜ now (words .exit) ≡ wordsIn 256 (now (bytes .entry)) ⌝ }
 {
-    let mut words = [0u16; 256];
     let mut i = 0;
     while i < 256 {
         words[i] = word_at(tail(bytes, 2 * i), 0);
         i += 1;
     }
-    words
 }
 
 // A step of C's decodes a record, so this loop tests nothing but its end.
-fn places_in(bytes: &[u8]) -> [u16; 256]
-    ensures { λ r. ⌜ r ≡ wordsIn 256 (now (bytes .entry)) ⌝ }
+fn fill_places(bytes: &[u8], words: &mut [u16; 256])
+    requires { ⌜ length (now words) ≡ 256 ⌝ }
+    ensures { λ _. ⌜ now (words .exit) ≡ wordsIn 256 (now (bytes .entry)) ⌝ }
 {
     if bytes.len() < lent::PLACES_SIZE {
-        return places_short(bytes);
+        places_short(bytes, words);
+        return;
     }
-    let mut words = [0u16; 256];
     let mut i = 0;
     while i < 256 {
         words[i] = bytes[2 * i] as u16 + 256 * bytes[2 * i + 1] as u16;
         i += 1;
     }
+}
+
+fn places_in(bytes: &[u8]) -> [u16; 256]
+    ensures { λ r. ⌜ r ≡ wordsIn 256 (now (bytes .entry)) ⌝ }
+{
+    let mut words = [0u16; 256];
+    fill_places(bytes, &mut words);
     words
 }
 

@@ -19,7 +19,7 @@ use Rattle.wire.specs.declared.Request.the-variants.{Put, Delete, Commit
 use Rattle.wire.specs.declared.Parsed.{Parsed}
 use Rattle.wire.specs.declared.Parsed.the-variants.{Is, Malformed}
 use Rattle.wire.specs.Message.{wordAt, idIn, isIf, onlyId, noBody, idAndValue, summaryPage, ofKind, parse, logPage, withPage}
-use Rattle.wire.specs.Sentences.{number2, Headed, Means, MessagesExact, MalformedExact, ValueExact, PageIn, PageExact}
+use Rattle.wire.specs.Sentences.{number2, Headed, Means, MessagesExact, MalformedExact, ReadKind, ReadKindExact, ValueExact, PageIn, PageExact}
 
 -- ---- from what is read to what it means
 
@@ -235,3 +235,31 @@ page-exact time count u s was is t c v z h = (
   (λ e. subst (PageIn time count u s was) e (page-in time count u s was is h t c v z)),
   page-is time count u s was is h,
 )
+
+-- ---- messages of kind 0x0105, document 02, K8
+
+pub read-kind-exact : ReadKindExact
+unfolding ReadKindExact
+read-kind-exact m = (
+  λ e. record {
+    long = leb-true 4 (length m) (and-left (leb 4 (length m)) (eqb (wordAt m 2) 0x0105) e);
+    kind-is = eqb-true (wordAt m 2) 0x0105 (and-right (leb 4 (length m)) (eqb (wordAt m 2) 0x0105) e);
+  },
+  λ k. and-both (leb 4 (length m)) (eqb (wordAt m 2) 0x0105) (le-leb 4 (length m) (k .long)) (eq-eqb (wordAt m 2) 0x0105 (k .kind-is)),
+)
+
+of-kind : (m : List ℕ) (k : ℕ) → Headed m k → ReadKind m → k ≡ 0x0105
+of-kind m k h r = sym (h .kind-is) ∙ r .kind-is
+
+-- such a message asks for a read of the id in it, and no other message for any
+pub read-asked : (m : List ℕ) (q : Request) → Means m q → ReadKind m → q ≡ Read (idIn m)
+read-asked m (Put i) (h, _, _, _, _) r = absurd (omega (arith, of-kind m 0x0101 h r))
+read-asked m (Delete i) (h, _, _, _) r = absurd (omega (arith, of-kind m 0x0102 h r))
+read-asked m Commit (h, _) r = absurd (omega (arith, of-kind m 0x0103 h r))
+read-asked m Abort (h, _) r = absurd (omega (arith, of-kind m 0x0104 h r))
+read-asked m (Read i) (h, l, n, b) r = ap (λ (k : ℕ). Read (idOf k)) (sym n)
+read-asked m (Log Summary) (h, _, _) r = absurd (omega (arith, of-kind m 0x0106 h r))
+read-asked m Convert (h, _) r = absurd (omega (arith, of-kind m 0x0108 h r))
+
+pub asks-read : (m : List ℕ) (i : ObjectId) → Means m (Read i) → ReadKind m
+asks-read m i (h, _, _, _) = record { long = h .long; kind-is = h .kind-is }

@@ -78,6 +78,10 @@ ofKind k m =
 unfoldable pub parse : List ℕ → Parsed
 parse m = elim (leb bodyAt (length m) && eqb (wordAt m 0) (length m)) [ true ↦ ofKind (wordAt m kindAt) m | false ↦ Malformed ]
 
+-- document 02, K8: "A message of kind 0x0105", malformed or not
+abbrev pub ofReadKind : List ℕ → Bool
+ofReadKind m = leb bodyAt (length m) && eqb (wordAt m kindAt) 0x0105
+
 -- ---- the log page
 
 -- "Log page 1 writes 14 bytes to the lent reply"

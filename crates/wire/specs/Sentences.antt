@@ -1,5 +1,6 @@
 -- Document 01's sentences on messages and on the log page, "What hosts send", and the statements that the definitions say exactly these.
 use mathlib.Core.List.{List, _∷_}
+use mathlib.Core.Bool.{true}
 use mathlib.Core.Logic.{_↔_}
 use mathlib.Core.Path.{_≡_}
 use Prim.Native.Nat.{ℕ, _+_, _*_, _≤_, _<_}
@@ -9,7 +10,7 @@ use Rattle.wire.specs.declared.Page.the-variants.{Summary}
 use Rattle.wire.specs.declared.Request.{Request}
 use Rattle.wire.specs.declared.Request.the-variants.{Put, Delete, Commit, Abort, Read, Log, Convert}
 use Rattle.wire.specs.declared.Parsed.the-variants.{Is, Malformed}
-use Rattle.wire.specs.Message.{valueIn, parse, logPage, withPage}
+use Rattle.wire.specs.Message.{valueIn, parse, ofReadKind, logPage, withPage}
 
 -- "Numbers are little-endian everywhere": the number of the two, and of the four, bytes from an offset on
 abbrev pub number2 : List ℕ → ℕ → ℕ
@@ -40,6 +41,14 @@ Means m Convert = Headed m 0x0108 × (length m ≡ 4)
 
 unfoldable pub MessagesExact : Type 0
 MessagesExact = (m : List ℕ) (q : Request) → (parse m ≡ Is q) ↔ Means m q
+
+-- document 02, K8: "A message of kind 0x0105", whatever its length says and whatever follows
+pub record ReadKind (m : List ℕ) : Type 0 where
+  pub long : 4 ≤ length m
+  pub kind-is : number2 m 2 ≡ 0x0105
+
+unfoldable pub ReadKindExact : Type 0
+ReadKindExact = (m : List ℕ) → (ofReadKind m ≡ true) ↔ ReadKind m
 
 -- 1: "message malformed: length, kind, id, value length or page"
 unfoldable pub MalformedExact : Type 0

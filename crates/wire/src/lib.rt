@@ -11,7 +11,7 @@ ghost use Prim.Native.Nat.{_+_, _<_};
 ghost use denote.Ref.{ptr};
 ghost use lib.ListN.{getD};
 ghost use Rattle.wire.specs.Answer.{refusalNumber, edgeNumber, refusedNumber, fieldNumber, spot, refusalSpot, spotOf};
-ghost use Rattle.wire.specs.Message.{wordAt, idIn, valueIn, isIf, onlyId, noBody, idAndValue, summaryPage, ofKind, parse, logPage};
+ghost use Rattle.wire.specs.Message.{wordAt, idIn, valueIn, isIf, onlyId, noBody, idAndValue, summaryPage, ofKind, parse, ofReadKind, logPage};
 ghost use Rattle.wire.specs.Code.{overlay, pageInto, valuePlace};
 
 // What a log request asks for.
@@ -100,10 +100,20 @@ pub fn word_at(m: &[u8], i: u8) -> u16
     byte_at(m, at) + 256 * byte_at(m, at + 1)
 }
 
-fn id_in(m: &[u8]) -> ObjectId
+pub fn id_in(m: &[u8]) -> ObjectId
     ensures { λ r. ⌜ r ≡ idIn (now (m .entry)) ⌝ }
 {
     ObjectId(word_at(m, BODY))
+}
+
+// A message of a read's kind, malformed or not.
+pub fn is_read_kind(m: &[u8]) -> bool
+    ensures { λ r. ⌜ r ≡ ofReadKind (now (m .entry)) ⌝ }
+{
+    if m.len() < BODY_AT {
+        return false;
+    }
+    word_at(m, KIND) == 0x0105
 }
 
 fn is_if(fits: bool, ask: Request) -> Parsed

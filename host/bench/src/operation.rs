@@ -134,9 +134,18 @@ fn run<S: Store>(store: &S, image: &mut [u8], blocks: u8, record: &mut S::Record
     steps
 }
 
+/// Reads in one go: one alone takes less time than the clock shows.
+const READS: usize = 200;
+
 fn read<S: Store>(store: &S, case: &Case, message: Vec<u8>, expected: Answer) -> (Duration, usize) {
     let record = store.idle(case.rest_idle);
-    timed(|| assert_eq!(store.read(black_box(&case.rest), case.blocks, &record, 0, &message).0, expected))
+    let (time, _) = timed(|| {
+        for _ in 0..READS {
+            let (image, record, message) = (black_box(&case.rest), black_box(&record), black_box(&message));
+            assert_eq!(store.read(image, case.blocks, record, 0, message).0, expected);
+        }
+    });
+    (time, READS)
 }
 
 fn serve<S: Store>(

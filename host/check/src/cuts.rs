@@ -3,6 +3,7 @@
 
 use crate::book::{Lists, Objects, found};
 use crate::mend::{Due, current};
+use crate::places;
 use crate::raise;
 use crate::rng::Rng;
 use crate::side::{Modelled, Stores};
@@ -166,6 +167,11 @@ impl<M: Modelled, L: Drive, P: Store> Cuts<M, L, P> {
         let (objects, lists) = found(self.twin.block(usize::from(idle.block)));
         assert_eq!(lists, Lists::default(), "something is pending after a mount");
         assert_eq!(idle.pending, [0; 4], "the record says that something is");
+        assert_eq!(
+            idle.places,
+            places::of_block(self.twin.block(usize::from(idle.block))),
+            "other places after a mount"
+        );
         let (Allowed::Exactly(expected) | Allowed::OrGone(expected)) = allowed;
         assert_eq!(objects, *expected, "a mount found other objects");
         let due = Due::of(image, self.twin.blocks).expect("a current block");

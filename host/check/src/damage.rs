@@ -5,6 +5,7 @@ use crate::edition;
 use crate::generate::{self, Manner, Wish};
 use crate::mend::Due;
 use crate::pending;
+use crate::places;
 use crate::raise;
 use crate::rng::Rng;
 use crate::side::Modelled;
@@ -29,12 +30,27 @@ pub fn try_image<M: Modelled, L: Drive, P: Store>(twin: &mut Twin<M, L, P>, rng:
         if twin.ask(0, &message::log()) == Answer::DONE {
             pending::mislead(twin, rng, idle);
             edition::mislead(twin, rng, idle);
+            let old = places::any(rng, image, &idle);
+            places::mislead(twin, rng, idle, &old);
         }
+        read_by_places(twin, rng, idle);
         ask(twin, rng);
         ask(twin, rng);
     }
     if rng.once_in(3) {
         cut_erases(twin, rng, image);
+    }
+}
+
+/// Reads under a forged record: where its length and number of blocks are the image's, each is told by the place.
+fn read_by_places<M: Modelled, L: Drive, P: Store>(twin: &mut Twin<M, L, P>, rng: &mut Rng, idle: Idle) {
+    if (idle.length, idle.blocks) == (twin.image().len(), twin.blocks) {
+        for id in 0..IDS as u8 {
+            places::look_for(twin, rng, &idle, id);
+        }
+    } else {
+        let outcome = twin.call(&Call::Read { host: 0, message: message::read(rng.below(IDS) as u8) });
+        assert_eq!(outcome.answer, Answer::STALE, "read under {idle:?}");
     }
 }
 
@@ -113,8 +129,8 @@ fn forged(rng: &mut Rng, image: &[u8], blocks: u8) -> Vec<Idle> {
             _ => (16, 1),
         };
         let near = rng.pick(&[end - 1, end + 1, end + 6, 0, 16, size, size + 1, 65_535]);
-        let pending = pending::of_block(cut[block]);
-        let right = Idle { length, block: block as u8, end: end as u16, blocks, edition, pending };
+        let (pending, places) = (pending::of_block(cut[block]), places::of_block(cut[block]));
+        let right = Idle { length, block: block as u8, end: end as u16, blocks, edition, pending, places };
         records.extend([right, Idle { end: near.min(65_535) as u16, ..right }]);
         if rng.once_in(4) {
             records.push(Idle { length: rng.pick(&[length - 1, size, 1, 65_536]), ..right });
@@ -123,6 +139,7 @@ fn forged(rng: &mut Rng, image: &[u8], blocks: u8) -> Vec<Idle> {
             records.push(Idle { pending: pending::other(rng, pending), ..right });
             records.push(Idle { edition: edition::other(rng, edition), ..right });
         }
+        records.push(Idle { places: places::any(rng, image, &right), ..right });
     }
     records
 }

@@ -1,7 +1,7 @@
 //! A step of a job whose record holds any bytes, as the definition says (docs/STORE.md, "A step"; DECISIONS 35, 77 and 111):
 //! over the record's bytes as the header lays them out, written apart from the library. Frames are read by the model.
 
-use library::{EDITION, JOB, LONGEST, RECORD_SIZE, Record};
+use library::{EDITION, JOB, LONGEST, PLACES, RECORD_SIZE, Record};
 use model::edition::Edition;
 use model::frame::{self, Body, FINISH, Frame, Host, Id};
 use model::job::Step;
@@ -21,7 +21,6 @@ const LENGTH: usize = 1;
 const BLOCK: usize = 3;
 const END: usize = 4;
 const BLOCKS: usize = 6;
-const PLACES: usize = EDITION + 1;
 /// Which blocks are erased first, and how many; whether a block is made, and the old one erased after; the block made, its
 /// time, from where on each host's changes are pending, the length of the frame to append, the edition of the block made, how
 /// many bytes of a torn frame are programmed, and their offsets.
@@ -148,12 +147,12 @@ fn enter_append(record: &mut Record) {
     if record[SIZE] > 0 { enter(APPEND, record) } else { rest(record, short(record, END)) }
 }
 
-/// Idle: the record says block, end, length, number of blocks, what is pending, which it said all along, and the edition, and
-/// nothing else.
+/// Idle: the record says block, end, length, number of blocks, the edition, what is pending and the places, which it said all
+/// along, and nothing else.
 fn rest(record: &mut Record, end: usize) {
     record[0] = 1;
     set_short(record, END, end);
-    record[PLACES..].fill(0);
+    record[JOB.start..].fill(0);
 }
 
 fn copied(image: &[u8], record: &mut Record) {
@@ -171,29 +170,45 @@ fn enter_copy(image: &[u8], record: &mut Record) {
     let size = image.len() / usize::from(record[BLOCKS]);
     let start = (usize::from(record[BLOCK]) * size).min(image.len());
     let block = &image[start..(start + size).min(image.len())];
-    let Some((bytes, id, source)) = settled(block, record).or_else(|| pending(block, record)) else {
+    let Some(Load { bytes, id, source, place }) = settled(block, record).or_else(|| pending(block, record)) else {
         return enter(SEAL, record);
     };
     enter(COPY, record);
     set_short(record, ID, id);
     set_short(record, SOURCE, source);
+    if let Some((id, held)) = place {
+        let at = if held { short(record, AT) } else { 0 };
+        set_short(record, PLACES.start + 2 * usize::from(id), at);
+    }
     (record[COPIED], record[OFFSET]) = (bytes.len() as u8, 0);
     record[UNIT].fill(0);
     record[UNIT][..bytes.len()].copy_from_slice(&bytes);
 }
 
-/// A frame to copy, and the id and place to go on from.
-type Load = (Vec<u8>, usize, usize);
+/// A frame to copy, the id and the offset to go on from, and the id whose place it is, or which then has none.
+struct Load {
+    bytes: Vec<u8>,
+    id: usize,
+    source: usize,
+    place: Option<(u8, bool)>,
+}
+
+/// The host whose changes the frame to append settles.
+fn committer(record: &Record) -> Option<u8> {
+    let frame = &record[FRAME];
+    (frame[2] == 3).then_some(frame[4])
+}
 
 /// The settled frame of the first id from the cursor on whose place holds a put or settled frame of it.
 fn settled(block: &[u8], record: &Record) -> Option<Load> {
     (short(record, ID)..256).find_map(|id| {
-        let place = short(record, PLACES + 2 * id);
+        let place = short(record, PLACES.start + 2 * id);
         let value = match frame::whole(edition(record, EDITION), block, place).filter(|_| place > 0)?.body {
             Body::Put(_, Id(owner), value) | Body::Settled(Id(owner), value) if usize::from(owner) == id => value,
             _ => return None,
         };
-        Some((frame::settled(edition(record, MAKES), Id(id as u8), &block[value]), id + 1, short(record, SOURCE)))
+        let bytes = frame::settled(edition(record, MAKES), Id(id as u8), &block[value]);
+        Some(Load { bytes, id: id + 1, source: short(record, SOURCE), place: Some((id as u8, true)) })
     })
 }
 
@@ -205,14 +220,15 @@ fn pending(block: &[u8], record: &Record) -> Option<Load> {
     let mut at = short(record, SOURCE);
     while let Some(Frame { place, body }) = frame::whole(edition(record, EDITION), journal, at) {
         let change = match body {
-            Body::Put(host, id, value) => Some((host, frame::put(made, host, id, &journal[value]))),
-            Body::Delete(host, id) => Some((host, frame::delete(made, host, id))),
+            Body::Put(host, id, value) => Some((host, id, true, frame::put(made, host, id, &journal[value]))),
+            Body::Delete(host, id) => Some((host, id, false, frame::delete(made, host, id))),
             _ => None,
         };
-        if let Some((Host(host), bytes)) = change
+        if let Some((Host(host), Id(id), put, bytes)) = change
             && at >= short(record, SINCE + 2 * usize::from(host))
         {
-            return Some((bytes, 256, place.end));
+            let placed = (committer(record) == Some(host)).then_some((id, put));
+            return Some(Load { bytes, id: 256, source: place.end, place: placed });
         }
         at = place.end;
     }

@@ -12,6 +12,7 @@ pub mod generate;
 pub mod mend;
 pub mod nor;
 pub mod pending;
+pub mod places;
 pub mod raise;
 pub mod rng;
 pub mod rounds;

@@ -1,5 +1,6 @@
 //! What each host has pending, as the record says it (K7).
 
+use crate::places;
 use crate::rng::Rng;
 use crate::side::Modelled;
 use crate::twin::{Call, Twin, UNWRITTEN};
@@ -38,7 +39,8 @@ pub fn mislead<M: Modelled, L: Drive, P: Store>(twin: &mut Twin<M, L, P>, rng: &
     twin.tally.pending += 1;
 }
 
-/// A call under the wrong record is refused with 11 and changes nothing; then the right one is back.
+/// A call under the wrong record is refused with 11 and changes nothing; a read goes by its place alone (K8), and with a
+/// message of another kind it gets 1. Then the right record is back.
 pub fn refused<M: Modelled, L: Drive, P: Store>(
     twin: &mut Twin<M, L, P>,
     rng: &mut Rng,
@@ -49,14 +51,16 @@ pub fn refused<M: Modelled, L: Drive, P: Store>(
     let short = rng.pick(&[message::commit, message::abort, message::convert, Vec::new])();
     let message = rng.pick(&[&short, &message::put(id, b"x"), &message::delete(id)]).clone();
     let call = match rng.below(4) {
-        0 => Call::Read { host, message: message::read(id) },
+        0 => Call::Read { host, message },
         1 => Call::Request { host, message: message::log(), reply: 20 },
         _ => Call::Request { host, message, reply: 20 },
     };
     twin.forge(wrong);
     let outcome = twin.call(&call);
-    assert_eq!(outcome.answer, Answer::STALE, "{call} under {wrong:?}");
+    let refusal = if matches!(call, Call::Read { .. }) { Answer::MALFORMED } else { Answer::STALE };
+    assert_eq!(outcome.answer, refusal, "{call} under {wrong:?}");
     assert!(outcome.reply.iter().all(|byte| *byte == UNWRITTEN), "the reply was written to");
     assert_eq!((twin.idle(), twin.image()), (Some(wrong), &image[..]));
+    places::look(twin, rng, &wrong);
     twin.forge(right);
 }

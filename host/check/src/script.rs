@@ -16,9 +16,13 @@ impl fmt::Display for Setting {
     fn fmt(&self, f: &mut fmt::Formatter) -> fmt::Result {
         writeln!(f, "image {} {}", hex::show(&self.image), self.blocks)?;
         match self.head {
-            Head::Idle(Idle { length, block, end, blocks, edition, pending: [a, b, c, d] }) => {
+            Head::Idle(Idle { length, block, end, blocks, edition, pending: [a, b, c, d], places }) => {
                 let edition = format_args!("edition={edition}");
-                writeln!(f, "idle {length} {block} {end} blocks={blocks} {edition} pending={a},{b},{c},{d}")
+                write!(f, "idle {length} {block} {end} blocks={blocks} {edition} pending={a},{b},{c},{d}")?;
+                for (id, place) in places.into_iter().enumerate().filter(|(_, place)| *place != 0) {
+                    write!(f, " place={id}:{place}")?;
+                }
+                writeln!(f)
             }
             _ => Ok(()),
         }

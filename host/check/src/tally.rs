@@ -1,5 +1,6 @@
 //! What the compared calls were and what they were answered.
 
+use crate::places::Wrong;
 use crate::twin::{Call, Outcome};
 use std::collections::BTreeMap;
 use std::fmt;
@@ -7,13 +8,14 @@ use store::{Answer, Fault, Field, message};
 
 /// How often each call got each answer, how often with a value of each length (the one put, or the one found), how often
 /// each block was said to have broken in each field, how many records were refused for their pending bytes alone and for
-/// their edition alone, how many idle records of a run were of edition 2, and how many of tight stores; what mounts of runs
-/// did, and where they were cut.
+/// their edition alone, what reads answered by a place that was wrong in each way, how many idle records of a run were of
+/// edition 2, and how many of tight stores; what mounts of runs did, and where they were cut.
 #[derive(Default)]
 pub struct Tally {
     answers: BTreeMap<(&'static str, u8), u64>,
     values: BTreeMap<(&'static str, u8, usize), u64>,
     faults: BTreeMap<(usize, Field), u64>,
+    places: BTreeMap<(Wrong, u8), u64>,
     pub pending: u64,
     pub editions: u64,
     pub second: u64,
@@ -36,6 +38,10 @@ impl Tally {
         }
     }
 
+    pub fn count_place(&mut self, how: Wrong, answer: Answer) {
+        *self.places.entry((how, answer.0)).or_default() += 1;
+    }
+
     pub fn count_mend(&mut self, what: Option<&'static str>) {
         if let Some(what) = what {
             *self.mends.entry(what).or_default() += 1;
@@ -56,6 +62,9 @@ impl Tally {
         for (key, count) in &other.faults {
             *self.faults.entry(*key).or_default() += count;
         }
+        for (key, count) in &other.places {
+            *self.places.entry(*key).or_default() += count;
+        }
         for (key, count) in &other.mends {
             *self.mends.entry(*key).or_default() += count;
         }
@@ -73,6 +82,11 @@ impl Tally {
     /// How often this block was said to have broken in this field.
     pub fn faults(&self, block: usize, field: Field) -> u64 {
         self.faults.get(&(block, field)).copied().unwrap_or(0)
+    }
+
+    /// How often a read by a place that was wrong in this way was answered so; all other calls were then refused with 11.
+    pub fn places(&self, how: Wrong, answer: Answer) -> u64 {
+        self.places.get(&(how, answer.0)).copied().unwrap_or(0)
     }
 
     /// How many mounts of runs did this, or were cut there.
@@ -104,6 +118,9 @@ impl fmt::Display for Tally {
         }
         for ((block, field), count) in &self.faults {
             writeln!(f, "  block {block}: {field:6}  {count}")?;
+        }
+        for ((how, answer), count) in &self.places {
+            writeln!(f, "  place {how:?}, read {:>4}  {count}", Answer(*answer).to_string())?;
         }
         for (what, count) in &self.mends {
             writeln!(f, "  mount, {what}  {count}")?;

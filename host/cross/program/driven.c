@@ -67,7 +67,20 @@ static void fill_up(void)
         bytes[end + len - 1] = 0xFE;
         end += len;
     }
+    here.record[4] = (uint8_t)end;
+    here.record[5] = (uint8_t)(end >> 8);
     event("closed frames up to the block's end");
+}
+
+/* A put and a delete of host 1 are settled by a commit that moves the store. */
+static void commit_and_move(const struct message *put)
+{
+    static const struct message commit = {{0x04, 0x00, 0x03, 0x01}, 4};
+    const uint8_t block = here.record[3], id = put->bytes[4];
+    ask_beside(1, put);
+    fill_up();
+    ask_beside(1, &commit);
+    must(here.record[3] != block && (here.record[PLACES + 2 * id] | here.record[PLACES + 2 * id + 1]) != 0);
 }
 
 static void all_jobs(uint32_t len, uint8_t blocks)
@@ -78,9 +91,11 @@ static void all_jobs(uint32_t len, uint8_t blocks)
     finish_beside(call_format(&here));
     fill_block(len / blocks);
     mend_block(&put);
+    commit_and_move(&put);
     ask_beside(0, &convert);
     must(here.record[EDITION] == 2);
     mend_block(&put);
+    commit_and_move(&put);
     fill_up();
     lose_record(&here);
     finish_beside(call_mount(&here));

@@ -140,6 +140,40 @@ void count_pending(const uint8_t *block, uint32_t end, uint8_t *counts)
     }
 }
 
+static void set_place(uint8_t *places, uint8_t id, uint32_t at)
+{
+    places[2 * id] = (uint8_t)at;
+    places[2 * id + 1] = (uint8_t)(at >> 8);
+}
+
+/* A host's changes from this frame on, up to its commit. */
+static void settle(const uint8_t *block, uint32_t at, uint32_t commit, uint8_t host, uint8_t *places)
+{
+    for (; at < commit; at += block[at]) {
+        const uint8_t kind = block[at + 2];
+        if ((kind == PUT || kind == DELETE) && (block[at + 4] & 3) == host)
+            set_place(places, block[at + 5], kind == PUT ? at : 0);
+    }
+}
+
+void place_objects(const uint8_t *block, uint32_t end, uint8_t *places)
+{
+    uint32_t since[4] = {0, 0, 0, 0}; /* by host, its first pending frame */
+    for (uint32_t at = HEADER; at + 5 <= end && block[at] != 0; at += block[at]) {
+        const uint8_t kind = block[at + 2], host = block[at + 4] & 3;
+        if (kind == SETTLED)
+            set_place(places, block[at + 4], at);
+        else if ((kind == PUT || kind == DELETE) && since[host] == 0)
+            since[host] = at;
+        else if (kind == COMMIT && since[host] != 0)
+            settle(block, since[host], at, host, places);
+        if (kind == COMMIT || kind == ABORT)
+            since[host] = 0;
+        else if (kind == RESET)
+            since[0] = since[1] = since[2] = since[3] = 0;
+    }
+}
+
 uint32_t craft(const struct board *board, uint32_t full)
 {
     const uint32_t size = board->len / board->blocks, alone = one_in(2);

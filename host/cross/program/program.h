@@ -98,7 +98,7 @@ struct message put_of(uint8_t id, const char *text);
 struct message bare(uint8_t kind);
 enum { PUT = 1, DELETE, COMMIT, ABORT, READ, LOG, CONVERT = 8 };
 /* Where a record says the edition, and how many bytes more a frame has in edition 2. */
-enum { EDITION = 15, SEAL = 4 };
+enum { EDITION = 15, PLACES = 16, SEAL = 4 };
 uint8_t ask(uint8_t host, const struct message *message);
 /* Answers DONE after exactly so many steps. */
 void serve(uint8_t host, const struct message *message, uint32_t steps);
@@ -120,6 +120,8 @@ int one_in(uint32_t n);
 uint32_t craft(const struct board *board, uint32_t full);
 /* What each host has pending in a journal whose frames end there: eight bytes of a record. */
 void count_pending(const uint8_t *block, uint32_t end, uint8_t *counts);
+/* And its places: where each object's settled frame is. */
+void place_objects(const uint8_t *block, uint32_t end, uint8_t *places);
 
 /* The parts of the run. */
 void rows(void);

@@ -130,16 +130,25 @@ static void into_job(void)
         call_run(&here, below(50));
 }
 
-/* Some bytes of the record become others, mostly those of the phase, the head and the job. */
+/* A byte of the record, mostly of the phase, the head, the first places or the job. */
+static uint32_t record_byte(void)
+{
+    if (one_in(3))
+        return below(GROMMETIDE_RECORD_BYTES);
+    return one_in(3) ? PLACES + below(16) : one_in(2) ? below(PLACES) : 528 + below(52);
+}
+
+/* Some bytes of the record become others. */
 static void forge(void)
 {
     if (!one_in(3))
         into_job();
     for (uint32_t i = 1 + below(4); i != 0; i--) {
-        const uint32_t at = one_in(3) ? below(GROMMETIDE_RECORD_BYTES) : one_in(2) ? below(16) : 528 + below(52);
+        const uint32_t at = record_byte();
         here.record[at] = (uint8_t)(one_in(2) ? below(10) : any());
     }
     event("a record forged");
+    any_read();
     for (uint32_t i = below(6); i != 0; i--)
         step_beside();
     call_run(&here, below(200));
@@ -177,9 +186,12 @@ static void by_hand(void)
     fill(here.record, 0, GROMMETIDE_RECORD_BYTES);
     copy(here.record, head, sizeof head);
     count_pending(here.image + here.len / here.blocks * block, end, here.record + sizeof head);
+    place_objects(here.image + here.len / here.blocks * block, end, here.record + PLACES);
     here.record[EDITION] = here.image[here.len / here.blocks * block + 2];
     if (one_in(8))
         here.record[sizeof head + below(9)] ^= (uint8_t)(1u << below(8));
+    if (one_in(8))
+        here.record[PLACES + below(16)] ^= (uint8_t)(1u << below(8));
     event("journals written by hand");
     for (uint32_t i = below(5); i != 0; i--)
         one_in(3) ? any_read() : any_request();

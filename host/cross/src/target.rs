@@ -40,6 +40,7 @@ const THUMB_2: &[&str] = &[
     "__aeabi_memclr4",
     "__aeabi_memclr8",
     "__aeabi_memcpy",
+    "__aeabi_memcpy4",
     "__aeabi_memcpy8",
     "__aeabi_memset",
     "__aeabi_uldivmod",
@@ -50,9 +51,9 @@ const THUMB_1: &[&str] = &[
     "__aeabi_memclr4",
     "__aeabi_memclr8",
     "__aeabi_memcpy",
+    "__aeabi_memcpy4",
     "__aeabi_memcpy8",
     "__aeabi_memset",
-    "__aeabi_uidiv",
     "__aeabi_uldivmod",
 ];
 

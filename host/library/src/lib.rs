@@ -18,8 +18,10 @@ pub const LONGEST: usize = 12 + VALUE_LIMIT;
 pub const PENDING: Range<usize> = 7..15;
 /// Where it says the edition.
 pub const EDITION: usize = PENDING.end;
-/// Where the job stands: after the bytes that anyone may know and the places of 256 values.
-pub const JOB: Range<usize> = 528..580;
+/// Where it says, by id, which frame the settled value stands in.
+pub const PLACES: Range<usize> = EDITION + 1..EDITION + 1 + 2 * 256;
+/// Where the job stands, after the bytes that anyone may know.
+pub const JOB: Range<usize> = PLACES.end..PLACES.end + 52;
 /// After the job there are two frames in hand.
 pub const RECORD_SIZE: usize = JOB.end + 2 * LONGEST;
 
@@ -93,8 +95,9 @@ impl Store for Library {
         record[4..6].copy_from_slice(&idle.end.to_le_bytes());
         record[6] = idle.blocks;
         record[EDITION] = idle.edition;
-        for (at, bytes) in PENDING.step_by(2).zip(idle.pending) {
-            record[at..at + 2].copy_from_slice(&bytes.to_le_bytes());
+        let shorts = PENDING.chain(PLACES).step_by(2).zip(idle.pending.into_iter().chain(idle.places));
+        for (at, number) in shorts {
+            record[at..at + 2].copy_from_slice(&number.to_le_bytes());
         }
         record
     }
@@ -109,6 +112,7 @@ impl Store for Library {
                 blocks: record[6],
                 edition: record[EDITION],
                 pending: [0, 1, 2, 3].map(|host| short(PENDING.start + 2 * host)),
+                places: std::array::from_fn(|id| short(PLACES.start + 2 * id)),
             }),
             stage if STAGES.contains(&stage) => Head::Job,
             _ => Head::Unmounted,

@@ -1,9 +1,9 @@
 //! The longest value, the most blocks, the record's layout and the fields' numbers: what the library does, what the header
 //! says and what this wrapper knows are one.
 
-use library::{EDITION, JOB, LONGEST, Library, PENDING, RECORD_SIZE, Record, VALUE_LIMIT};
+use library::{EDITION, JOB, LONGEST, Library, PENDING, PLACES, RECORD_SIZE, Record, VALUE_LIMIT};
 use std::fs;
-use store::{Answer, Field, Head, Idle, Store, message};
+use store::{Answer, Field, Head, Idle, Store, message, places};
 
 const HEADER: &str = concat!(env!("CARGO_MANIFEST_DIR"), "/../../include/grommetide.h");
 
@@ -113,7 +113,8 @@ fn idle_records_are_what_the_header_says() {
     let library = Library::linked();
     for blocks in 2..=16 {
         let (image, record) = formatted(&library, blocks);
-        let idle = Idle { length: image.len(), block: 0, end: 16, blocks, edition: 1, pending: [0; 4] };
+        let (length, pending, places) = (image.len(), [0; 4], places([]));
+        let idle = Idle { length, block: 0, end: 16, blocks, edition: 1, pending, places };
         assert_eq!((library.head(&record), record), (Head::Idle(idle), library.idle(idle)));
         let last = ((image.len() - 1) as u16).to_le_bytes();
         assert_eq!(record[..7], [1, last[0], last[1], 0, 16, 0, blocks]);
@@ -127,9 +128,30 @@ fn idle_records_are_what_the_header_says() {
         "6      number of blocks",
         "7-14   pending bytes of hosts 0 to 3, two bytes each",
         "15     edition of the current block, 1 or 2",
+        "16-527 places of objects 0 to 255, two bytes each",
     ] {
         assert!(header.contains(&format!(" *     {line}")), "{line}");
     }
+}
+
+/// Three objects, the first behind the header; frames of 248, 6 and 52 bytes are in front of the others.
+#[test]
+fn places_are_where_the_header_says() {
+    let library = Library::linked();
+    let (mut image, mut record) = formatted(&library, 2);
+    let (commit, puts) =
+        (message::commit(), [(0, 240), (7, 44), (255, 0)].map(|(id, size)| message::put(id, &vec![7; size])));
+    for message in [&puts[0], &commit, &puts[1], &puts[2], &commit] {
+        assert_eq!(library.request(&image, 2, &mut record, 1, message, &mut []), Answer::MORE);
+        while library.step(&mut image, 2, &mut record) == Answer::MORE {}
+    }
+    let mut expected = [0; PLACES.end - PLACES.start];
+    for (id, place) in [(0, 16_u16), (7, 16 + 248 + 6), (255, 16 + 248 + 6 + 52)] {
+        expected[2 * id..2 * id + 2].copy_from_slice(&place.to_le_bytes());
+    }
+    assert_eq!(record[PLACES], expected);
+    assert_eq!(record[PLACES.end..], [0; RECORD_SIZE - PLACES.end]);
+    assert_eq!(library.mount(&image, 2), (Answer::DONE, record));
 }
 
 /// Each host's pending bytes, low byte first: puts of 240 and 100 bytes make 248 and 108, a delete 8. A mount drops them.
@@ -170,7 +192,7 @@ fn frames_in_hand_are_where_the_header_says() {
     let second = JOB.end + LONGEST;
     assert_eq!(RECORD_SIZE, second + LONGEST);
     assert_eq!(put(VALUE_LIMIT).1[second..second + frame.len()], frame);
-    let own = format!("{}-{} the library's own", EDITION + 1, RECORD_SIZE - 1);
+    let own = format!("{}-{} the library's own", PLACES.end, RECORD_SIZE - 1);
     let job = format!("{}-{} the job", JOB.start, JOB.end - 1);
     let frames = format!("{}-{} and {second}-{} frames in hand", JOB.end, second - 1, RECORD_SIZE - 1);
     let header = header();

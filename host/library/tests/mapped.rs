@@ -1,6 +1,6 @@
 //! Flash as it is mapped on a board: to be read only. The store runs on it by `next` and `made`; a write to it by any other
 //! than the driver here ends the test, also a write that changes nothing, and so does a look past its end. The record is
-//! held in the same way against the calls that only read it.
+//! held in the same way against the calls that only read it. A read is held to the page that its frame is on.
 
 use library::{Library, RECORD_SIZE, Record, flash};
 use std::ffi::c_void;
@@ -47,6 +47,12 @@ impl Mapped {
     fn bytes(&self) -> &[u8] {
         // SAFETY: bytes of this mapping, which may be read.
         unsafe { slice::from_raw_parts(self.start.add(self.pages - self.len), self.len) }
+    }
+
+    /// From now on nobody may touch any page but this one.
+    fn only(&self, page: usize) {
+        self.protect(0, self.pages, NONE);
+        self.protect(page * PAGE, PAGE, READ);
     }
 
     /// Lends the bytes to be changed.
@@ -168,4 +174,25 @@ fn flash_that_is_mapped_to_be_read_only() {
         assert_eq!(board.mount(), Answer::DONE);
         assert_eq!((board.current(), board.value(1), board.value(3)), (2 % blocks, Some(&value(last)[..]), None));
     }
+}
+
+/// 256 objects on eight pages of block 0: a read of each that is on one page, with all others out of reach.
+#[test]
+fn a_read_touches_its_frame_alone() {
+    let mut board = Board::blank(65_536, 2);
+    assert_eq!(board.whole(Library::format_into), Answer::DONE);
+    for id in 0..=255 {
+        assert_eq!(board.ask(0, &message::put(id, &[id; 100])), Answer::DONE);
+        assert_eq!(board.ask(0, &message::commit()), Answer::DONE);
+    }
+    let mut pages = [0; 16];
+    for (id, place) in (0..=255).zip(board.idle().places.map(usize::from)) {
+        let (first, last) = (place / PAGE, (place + 108 - 1) / PAGE);
+        if first == last {
+            board.image.only(first);
+            assert_eq!(board.value(id), Some(&[id; 100][..]));
+            pages[first] += 1;
+        }
+    }
+    assert!(pages[..7].iter().all(|reads| *reads > 30) && pages[8..] == [0; 8], "{pages:?}");
 }

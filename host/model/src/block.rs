@@ -98,15 +98,21 @@ pub struct Replay {
     edition: Edition,
     /// By id, where its settled value stands in the block.
     pub settled: Vec<Option<Range<usize>>>,
+    /// By id, where the frame starts that it stands in; 0 for none (K8).
+    pub places: [u16; 256],
     /// The pending puts and deletes of all hosts, as they stand in the journal.
     pub pending: Vec<Frame>,
 }
 
 pub fn replay(journal: &Journal) -> Replay {
-    let mut replay = Replay { edition: journal.edition, settled: vec![None; 256], pending: Vec::new() };
-    for frame in &journal.frames {
+    replayed(journal.edition, &journal.frames)
+}
+
+pub fn replayed(edition: Edition, frames: &[Frame]) -> Replay {
+    let mut replay = Replay { edition, settled: vec![None; 256], places: [0; 256], pending: Vec::new() };
+    for frame in frames {
         match &frame.body {
-            Body::Settled(Id(id), value) => replay.settled[usize::from(*id)] = Some(value.clone()),
+            Body::Settled(id, value) => replay.settle(*id, frame.place.start, Some(value.clone())),
             Body::Put(..) | Body::Delete(..) => replay.pending.push(frame.clone()),
             Body::Commit(host) => replay.commit(*host),
             Body::Abort(host) => replay.pending.retain(|frame| !belongs(frame, *host)),
@@ -119,13 +125,19 @@ pub fn replay(journal: &Journal) -> Replay {
 
 impl Replay {
     fn commit(&mut self, host: Host) {
-        for frame in self.pending.extract_if(.., |frame| belongs(frame, host)) {
-            match frame.body {
-                Body::Put(_, Id(id), value) => self.settled[usize::from(id)] = Some(value),
-                Body::Delete(_, Id(id)) => self.settled[usize::from(id)] = None,
+        let list: Vec<Frame> = self.pending.extract_if(.., |frame| belongs(frame, host)).collect();
+        for Frame { place, body } in list {
+            match body {
+                Body::Put(_, id, value) => self.settle(id, place.start, Some(value)),
+                Body::Delete(_, id) => self.settle(id, 0, None),
                 _ => unreachable!("only puts and deletes are pending"),
             }
         }
+    }
+
+    fn settle(&mut self, Id(id): Id, place: usize, value: Option<Range<usize>>) {
+        self.places[usize::from(id)] = place as u16;
+        self.settled[usize::from(id)] = value;
     }
 
     pub fn objects(&self) -> impl Iterator<Item = (Id, Range<usize>)> {
@@ -135,6 +147,11 @@ impl Replay {
 
     pub fn has_pending(&self, host: Host) -> bool {
         self.pending.iter().any(|frame| belongs(frame, host))
+    }
+
+    /// What the record says of each host (K7).
+    pub fn counts(&self) -> [u16; 4] {
+        [0, 1, 2, 3].map(|host| self.pending_bytes(Host(host)) as u16)
     }
 
     /// The bytes of the host's pending frames (K7).

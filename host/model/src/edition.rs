@@ -14,6 +14,11 @@ impl Edition {
         self.either(1, 2)
     }
 
+    /// What a record says, as a read takes it (K8): any number but 2 is the first.
+    pub fn numbered(number: u8) -> Edition {
+        if number == 2 { Edition::Second } else { Edition::First }
+    }
+
     /// Bytes 0 to 3 of a block's header: length and kind.
     pub fn label(self) -> [u8; 4] {
         self.either([0x10, 0x00, 0x01, 0x4A], [0x10, 0x00, 0x02, 0x4A])

@@ -1,5 +1,5 @@
-//! Document 01 with K2, K4, K5, K7, K9, K11 and K14 of document 02, implemented straightforwardly and on its own: nothing
-//! here is shared with the proved library.
+//! Document 01 with K2, K4, K5, K7, K8, K9, K11 and K14 of document 02, implemented straightforwardly and on its own:
+//! nothing here is shared with the proved library.
 
 pub mod block;
 pub mod edition;
@@ -7,14 +7,15 @@ pub mod fault;
 pub mod frame;
 pub mod job;
 mod mend;
+mod place;
 mod request;
 
-use block::{Block, Journal, Replay};
+use block::{Block, HEADER, Journal, Replay};
 use edition::Edition;
-use frame::{Host, Id};
+use frame::Host;
 pub use job::Record;
 use job::Work;
-use request::{Page, Request};
+use request::{Message, Page, Request};
 use store::message::PAGE;
 use store::{Answer, Drive, Fault, Head, Idle, Store, Stretch};
 
@@ -151,8 +152,8 @@ fn format(image: &[u8], blocks: u8) -> Result<Record, Answer> {
     let others = (0..read.len()).filter(|block| Some(*block) != current);
     let mut work: Vec<Work> = others.chain(current).map(|block| Work::erase(block, size)).collect();
     work.extend(write_block(Edition::First, 0, 1, Vec::new()));
-    let (length, end, edition) = (image.len(), block::HEADER as u16, Edition::First.number());
-    Ok(job::begin(work, Idle { length, block: 0, end, blocks, edition, pending: [0; 4] }))
+    let (length, end, edition) = (image.len(), HEADER as u16, Edition::First.number());
+    Ok(job::begin(work, Idle { length, block: 0, end, blocks, edition, pending: [0; 4], places: [0; 256] }))
 }
 
 /// Writes a block that starts at `base`: the state byte says "in progress" first and "valid" last.
@@ -160,28 +161,28 @@ fn write_block(edition: Edition, base: usize, time: u32, frames: Vec<u8>) -> [Wo
     [
         Work::program(base + block::STATE, [block::IN_PROGRESS]),
         Work::program(base, edition.label()),
-        Work::program(base + block::HEADER, frames),
+        Work::program(base + HEADER, frames),
         Work::program(base + block::TIME, (!time).to_le_bytes()),
         Work::program(base + block::STATE, [block::VALID]),
     ]
 }
 
 /// The refusals that come before a look at the message.
-fn board<'a>(image: &'a [u8], blocks: u8, record: &Record, host: u8) -> Result<(Board<'a>, Host), Answer> {
+fn ready<'a>(image: &[u8], blocks: u8, record: &'a Record, host: u8) -> Result<(&'a Idle, Host), Answer> {
     allowed_size(image, blocks)?;
     let host = Host::new(host).ok_or(Answer::HOST_RANGE)?;
     match record {
         Record::Job(_) => Err(Answer::BUSY),
         Record::Unmounted => Err(Answer::NO_STORE),
-        Record::Idle(idle) => Ok((Board::found(image, blocks, *idle).ok_or(Answer::STALE)?, host)),
+        Record::Idle(idle) => Ok((idle, host)),
     }
 }
 
 fn read(image: &[u8], blocks: u8, record: &Record, host: u8, message: &[u8]) -> Result<Stretch, Answer> {
-    let (board, _) = board(image, blocks, record, host)?;
+    let (idle, _) = ready(image, blocks, record, host)?;
     match request::parse(message) {
-        Some(Request::Read(id)) => board.find(id).ok_or(Answer::NO_OBJECT),
-        _ => Err(Answer::MALFORMED),
+        Message::Read(Some(id)) => place::find(image, blocks, idle, id),
+        Message::Read(None) | Message::Other(_) => Err(Answer::MALFORMED),
     }
 }
 
@@ -193,10 +194,13 @@ fn serve(
     message: &[u8],
     reply: &mut [u8],
 ) -> Result<Record, Answer> {
-    let (board, host) = board(image, blocks, record, host)?;
+    let Message::Other(request) = request::parse(message) else {
+        return read(image, blocks, record, host, message).map(|_| record.clone());
+    };
+    let (idle, host) = ready(image, blocks, record, host)?;
+    let board = Board::found(image, blocks, idle)?;
     let edition = board.journal.edition;
-    match request::parse(message).ok_or(Answer::MALFORMED)? {
-        Request::Read(id) => board.find(id).ok_or(Answer::NO_OBJECT).map(|_| record.clone()),
+    match request.ok_or(Answer::MALFORMED)? {
         Request::Log(Page::Store) => {
             reply.get_mut(..PAGE).ok_or(Answer::SHORT_REPLY)?.copy_from_slice(&board.page());
             Ok(record.clone())
@@ -204,8 +208,8 @@ fn serve(
         Request::Put(id, value) => board.change(host, frame::put(edition, host, id, value), edition.reserve()),
         Request::Delete(id) => board.change(host, frame::delete(edition, host, id), 0),
         Request::Commit | Request::Abort if !board.replay.has_pending(host) => Ok(record.clone()),
-        Request::Commit => board.append(host, frame::commit(edition, host), 0),
-        Request::Abort => board.append(host, frame::abort(edition, host), 0),
+        Request::Commit => board.append(frame::commit(edition, host)),
+        Request::Abort => board.append(frame::abort(edition, host)),
         Request::Convert => board.convert(),
     }
 }
@@ -230,17 +234,17 @@ impl<'a> Board<'a> {
     }
 
     /// The board as an idle record has it, unless the image is another (refusal 11).
-    fn found(image: &'a [u8], blocks: u8, idle: Idle) -> Option<Board<'a>> {
+    fn found(image: &'a [u8], blocks: u8, idle: &Idle) -> Result<Board<'a>, Answer> {
         if idle.length != image.len() || idle.blocks != blocks || idle.block >= blocks {
-            return None;
+            return Err(Answer::STALE);
         }
         let (block, mut others) = (usize::from(idle.block), cut(image, blocks));
-        let board = Board::new(image, blocks, block, block::read(others.remove(block)))?;
+        let read = block::read(others.remove(block));
+        let board = Board::new(image, blocks, block, read).ok_or(Answer::STALE)?;
         let room = board.replay.claimed() + board.journal.edition.mark() * board.replay.open(None) <= board.size();
-        let ends = board.journal.end == usize::from(idle.end) && !board.journal.torn;
-        let says = (idle.edition, idle.pending) == (board.journal.edition.number(), board.pending());
-        (ends && room && says && others.into_iter().all(|other| block::read(other) == Block::Blank))
-            .then_some(board)
+        let says = *idle == board.idle(board.journal.end);
+        let alone = others.into_iter().all(|other| block::read(other) == Block::Blank);
+        if !board.journal.torn && room && says && alone { Ok(board) } else { Err(Answer::STALE) }
     }
 
     fn size(&self) -> usize {
@@ -256,19 +260,22 @@ impl<'a> Board<'a> {
         (self.block + 1) % usize::from(self.blocks)
     }
 
-    fn idle(&self, block: usize, end: usize) -> Idle {
-        let (length, blocks, edition) = (self.image.len(), self.blocks, self.journal.edition.number());
-        Idle { length, block: block as u8, end: end as u16, blocks, edition, pending: self.pending() }
+    /// The record where whole frames end at `end` and replay gives what it gives now.
+    fn idle(&self, end: usize) -> Idle {
+        self.says(self.journal.edition, self.block, end, &self.replay)
     }
 
-    /// What the record says of each host (K7).
-    fn pending(&self) -> [u16; 4] {
-        [0, 1, 2, 3].map(|host| self.replay.pending_bytes(Host(host)) as u16)
+    /// The record once a block holds these frames behind its header.
+    fn holding(&self, edition: Edition, block: usize, frames: &[u8]) -> Idle {
+        let bytes = [&[0xFF; HEADER], frames].concat();
+        let replay = block::replayed(edition, &block::frames(edition, &bytes).0);
+        self.says(edition, block, bytes.len(), &replay)
     }
 
-    fn find(&self, id: Id) -> Option<Stretch> {
-        let value = self.replay.settled[usize::from(id.0)].clone()?;
-        Some(Stretch { at: self.block * self.size() + value.start, len: value.len() })
+    fn says(&self, edition: Edition, block: usize, end: usize, replay: &Replay) -> Idle {
+        let (pending, places) = (replay.counts(), replay.places);
+        let (length, block, edition) = (self.image.len(), block as u8, edition.number());
+        Idle { length, block, end: end as u16, blocks: self.blocks, edition, pending, places }
     }
 
     fn page(&self) -> [u8; PAGE] {
@@ -286,28 +293,27 @@ impl<'a> Board<'a> {
     /// A put or delete: the host's pending frames have half a block at most (K7), then the room rule; `spare` is what must
     /// stay free beyond it.
     fn change(&self, host: Host, frame: Vec<u8>, spare: usize) -> Result<Record, Answer> {
-        let pending = self.replay.pending_bytes(host) + frame.len();
-        if pending > self.size() / 2 {
+        if self.replay.pending_bytes(host) + frame.len() > self.size() / 2 {
             return Err(Answer::HOST_FULL);
         }
         let marks = self.journal.edition.mark() * self.replay.open(Some(host));
         if self.replay.claimed() + frame.len() + marks + spare > self.size() {
             return Err(Answer::NO_ROOM);
         }
-        self.append(host, frame, pending)
+        self.append(frame)
     }
 
-    /// A frame of this host, which then has so many bytes pending.
-    fn append(&self, host: Host, frame: Vec<u8>, pending: usize) -> Result<Record, Answer> {
-        let (mut work, block, at) = if self.journal.end + frame.len() > self.size() {
-            (self.transfer(self.journal.edition)?, self.next(), self.replay.claimed())
+    fn append(&self, frame: Vec<u8>) -> Result<Record, Answer> {
+        let edition = self.journal.edition;
+        let ((mut work, mut frames), block) = if self.journal.end + frame.len() > self.size() {
+            (self.transfer(edition)?, self.next())
         } else {
-            (Vec::new(), self.block, self.journal.end)
+            ((Vec::new(), self.bytes()[HEADER..self.journal.end].to_vec()), self.block)
         };
-        let mut idle = self.idle(block, at + frame.len());
-        idle.pending[usize::from(host.0)] = pending as u16;
-        work.push(Work::program(block * self.size() + at, frame));
-        Ok(job::begin(work, idle))
+        let at = block * self.size() + HEADER + frames.len();
+        frames.extend(&frame);
+        work.push(Work::program(at, frame));
+        Ok(job::begin(work, self.holding(edition, block, &frames)))
     }
 
     /// K9: the settled objects into a block of edition 2, unless this is one.
@@ -318,23 +324,23 @@ impl<'a> Board<'a> {
         } else if used > self.size() {
             Err(Answer::NO_ROOM)
         } else if self.journal.edition == Edition::Second {
-            Ok(Record::Idle(self.idle(self.block, self.journal.end)))
+            Ok(Record::Idle(self.idle(self.journal.end)))
         } else {
-            let idle = Idle { edition: Edition::Second.number(), ..self.idle(self.next(), used) };
-            Ok(job::begin(self.transfer(Edition::Second)?, idle))
+            let (work, frames) = self.transfer(Edition::Second)?;
+            Ok(job::begin(work, self.holding(Edition::Second, self.next(), &frames)))
         }
     }
 
-    /// Settled and pending frames into the next block, then the erase of this one. Where the edition changes nothing is
-    /// pending.
-    fn transfer(&self, edition: Edition) -> Result<Vec<Work>, Answer> {
+    /// Settled and pending frames into the next block, then the erase of this one; and the bytes of those frames. Where the
+    /// edition changes nothing is pending.
+    fn transfer(&self, edition: Edition) -> Result<(Vec<Work>, Vec<u8>), Answer> {
         if self.journal.time == LAST_TIME {
             return Err(Answer::WORN);
         }
-        let (base, time) = (self.next() * self.size(), self.journal.time + 1);
-        let mut work = Vec::from(write_block(edition, base, time, self.frames(edition)));
+        let (base, time, frames) = (self.next() * self.size(), self.journal.time + 1, self.frames(edition));
+        let mut work = Vec::from(write_block(edition, base, time, frames.clone()));
         work.push(Work::erase(self.block, self.size()));
-        Ok(work)
+        Ok((work, frames))
     }
 
     /// The settled objects as frames, then the pending frames.

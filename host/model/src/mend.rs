@@ -15,11 +15,12 @@ impl Board<'_> {
         let end = closed + reset.len();
         self.replay.pending.clear();
         if end > self.size() {
-            return Ok((self.transfer(edition)?, self.idle(self.next(), self.replay.used())));
+            let (work, frames) = self.transfer(edition)?;
+            return Ok((work, self.holding(edition, self.next(), &frames)));
         }
         let mut work = self.closing();
         work.push(Work::program(self.block * self.size() + closed, reset));
-        Ok((work, self.idle(self.block, end)))
+        Ok((work, self.idle(end)))
     }
 
     /// The length of the torn frame, 0 if there is none. Its low byte stands, and the high byte of every length is 0.

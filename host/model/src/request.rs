@@ -3,12 +3,17 @@
 use crate::frame::{Id, VALUE_LIMIT};
 use store::message::{ABORT, COMMIT, CONVERT, DELETE, LOG, PUT, READ};
 
+/// What a message holds, unless it is malformed. Those of kind 0x0105 stand apart, malformed or not, as K8 answers them.
+pub enum Message<'a> {
+    Read(Option<Id>),
+    Other(Option<Request<'a>>),
+}
+
 pub enum Request<'a> {
     Put(Id, &'a [u8]),
     Delete(Id),
     Commit,
     Abort,
-    Read(Id),
     Log(Page),
     Convert,
 }
@@ -17,13 +22,24 @@ pub enum Page {
     Store,
 }
 
-/// The request a message holds, unless it is malformed.
-pub fn parse(message: &[u8]) -> Option<Request<'_>> {
+pub fn parse(message: &[u8]) -> Message<'_> {
+    let Some((length, kind, body)) = split(message) else {
+        return Message::Other(None);
+    };
+    let right = usize::from(length) == message.len();
+    match kind {
+        READ => Message::Read(only_id(body).filter(|_| right)),
+        _ => Message::Other(request(kind, body).filter(|_| right)),
+    }
+}
+
+fn split(message: &[u8]) -> Option<(u16, u16, &[u8])> {
     let (length, rest) = number(message)?;
     let (kind, body) = number(rest)?;
-    if usize::from(length) != message.len() {
-        return None;
-    }
+    Some((length, kind, body))
+}
+
+fn request(kind: u16, body: &[u8]) -> Option<Request<'_>> {
     match (kind, body) {
         (PUT, body) => {
             let (id, value) = id(body)?;
@@ -32,7 +48,6 @@ pub fn parse(message: &[u8]) -> Option<Request<'_>> {
         (DELETE, body) => only_id(body).map(Request::Delete),
         (COMMIT, []) => Some(Request::Commit),
         (ABORT, []) => Some(Request::Abort),
-        (READ, body) => only_id(body).map(Request::Read),
         (LOG, [1]) => Some(Request::Log(Page::Store)),
         (CONVERT, []) => Some(Request::Convert),
         _ => None,

@@ -2,7 +2,7 @@
 
 use crate::MOST;
 use crate::journal::{
-    BARE, DELETE, FINISH, HEADER, IN_PROGRESS, Journal, KEPT, LABEL, LONGEST, PUT, RESET, SETTLED,
+    BARE, COMMIT, DELETE, FINISH, HEADER, IN_PROGRESS, Journal, KEPT, LABEL, LONGEST, PUT, RESET, SETTLED,
 };
 use crate::journal::{STATE, TIME, VALID, finish, label, value_at};
 use store::{Answer, Idle};
@@ -37,6 +37,8 @@ pub struct Record {
     pub edition: u8,
     /// By host, the bytes of its pending frames; in a job, what they are when it ends.
     pub pending: [u16; 4],
+    /// By id, the frame that its settled value stands in; in a transfer, from `id` on still in the old block.
+    pub places: [u16; 256],
     /// The bytes of a block.
     size: u16,
     /// How many blocks are erased first, and which, in this order.
@@ -53,13 +55,12 @@ pub struct Record {
     index: u8,
     /// The edition of the block that is copied.
     source: u8,
-    /// What is copied: places of settled values from `id` on, then the old block's changes from `from` to `until`, of
-    /// each host from `since` on.
+    /// What is copied: settled values from `id` on, then the old block's changes from `from` to `until`, of each host from
+    /// `since` on.
     id: u16,
     from: u16,
     until: u16,
     since: [u16; 4],
-    places: [u16; 256],
     /// The frame being copied, and the one to append; a length of 0 is none.
     unit: [u8; LONGEST],
     frame: [u8; LONGEST],
@@ -74,6 +75,7 @@ impl Record {
         end: 0,
         edition: 0,
         pending: [0; 4],
+        places: [0; 256],
         size: 0,
         wipes: 0,
         wipe: [0; MOST],
@@ -88,26 +90,28 @@ impl Record {
         from: 0,
         until: 0,
         since: [0; 4],
-        places: [0; 256],
         unit: [0; LONGEST],
         frame: [0; LONGEST],
     };
 
-    /// A record that names a block of an image, with nothing to do.
-    pub fn rest(&mut self, Idle { length, block, end, blocks, edition, pending }: Idle) {
+    /// An unmounted record names a block of an image.
+    pub fn name(&mut self, length: usize, blocks: u8, block: u8, end: u16, edition: u8) {
         self.phase = Phase::Idle;
         self.length = length as u32;
-        (self.blocks, self.block, self.end) = (blocks, block, end);
-        (self.edition, self.pending) = (edition, pending);
+        (self.blocks, self.block, self.end, self.edition) = (blocks, block, end, edition);
+    }
+
+    /// What the last job was is forgotten.
+    pub fn clear(&mut self) {
         (self.wipes, self.closes, self.index) = (0, 0, 0);
         (self.makes, self.drops) = (false, false);
         self.frame[0] = 0;
     }
 
-    /// What it names.
+    /// What an idle record says.
     pub fn idle(&self) -> Idle {
-        let Record { block, end, blocks, edition, pending, .. } = *self;
-        Idle { length: self.length as usize, block, end, blocks, edition, pending }
+        let Record { block, end, blocks, edition, pending, places, .. } = *self;
+        Idle { length: self.length as usize, block, end, blocks, edition, pending, places }
     }
 
     /// Erases this block after those asked for before.
@@ -123,14 +127,14 @@ impl Record {
         (self.id, self.from, self.until) = (256, 0, 0);
     }
 
-    /// The journal goes over to the next block in this edition, with its pending frames or without.
+    /// The journal, whose places the record has, goes over to the next block in this edition, with its pending frames or
+    /// without.
     pub fn transfer(&mut self, journal: &Journal, edition: u8, pending: bool) {
         let next = self.block + 1;
         self.make(if next == self.blocks { 0 } else { next }, journal.time + 1, edition);
         self.source = journal.edition;
         self.drops = true;
         self.id = 0;
-        self.places = journal.places;
         self.until = journal.end as u16;
         self.from = if pending { HEADER as u16 } else { self.until };
         for host in 0..4 {
@@ -164,6 +168,27 @@ impl Record {
         finish(&mut self.frame, front, self.edition);
         let pending = &mut self.pending[usize::from(head[4])];
         *pending = if head[2] <= DELETE { *pending + u16::from(self.frame[0]) } else { 0 };
+    }
+
+    /// The host's changes, from its first one on, are settled where they stand.
+    pub fn settle(&mut self, block: &[u8], journal: &Journal, host: u8) {
+        let mut at = usize::from(journal.since[usize::from(host)]);
+        while at < journal.end {
+            if matches!(block[at + 2], PUT | DELETE) && block[at + 4] == host {
+                self.place(block[at + 2], block[at + 5], at as u16);
+            }
+            at += usize::from(block[at]);
+        }
+    }
+
+    /// What a settled put or delete that stands there does to its id's place.
+    fn place(&mut self, kind: u8, id: u8, at: u16) {
+        self.places[usize::from(id)] = if kind == PUT { at } else { 0 };
+    }
+
+    /// Whether the frame to append settles the changes of this host.
+    fn commits(&self, host: u8) -> bool {
+        self.frame[0] != 0 && self.frame[2] == COMMIT && self.frame[4] == host
     }
 
     /// Takes up what was asked for above.
@@ -279,7 +304,7 @@ impl Record {
         self.end += 1;
     }
 
-    /// Takes the next frame to be copied into `unit`, if there is one.
+    /// Takes the next frame to be copied into `unit`, if there is one. Its place is where it goes.
     fn load(&mut self, image: &[u8]) -> bool {
         let (start, end) = self.bounds(self.old());
         let old = &image[start..end];
@@ -292,15 +317,19 @@ impl Record {
                 self.unit[..KEPT].copy_from_slice(&[0, 0, SETTLED, 0, id, 0]);
                 self.unit[KEPT..KEPT + length].copy_from_slice(&old[at..at + length]);
                 finish(&mut self.unit, KEPT + length, self.edition);
+                self.places[usize::from(id)] = self.end;
                 return true;
             }
         }
         while self.from < self.until {
             let at = usize::from(self.from);
-            let (length, kind, host) = (usize::from(old[at]), old[at + 2], usize::from(old[at + 4] & 3));
+            let (length, kind, host) = (usize::from(old[at]), old[at + 2], old[at + 4] & 3);
             self.from += length as u16;
-            if matches!(kind, PUT | DELETE) && at >= usize::from(self.since[host]) {
+            if matches!(kind, PUT | DELETE) && at >= usize::from(self.since[usize::from(host)]) {
                 self.unit[..length].copy_from_slice(&old[at..at + length]);
+                if self.commits(host) {
+                    self.place(kind, old[at + 5], self.end);
+                }
                 return true;
             }
         }

@@ -210,6 +210,17 @@ pub fn blank(bytes: &[u8]) -> bool {
     bytes.iter().all(|byte| *byte == 0xFF)
 }
 
+/// Where this id's value stands, and its length, if a whole legal put or settled frame of the id is at `at`.
+pub fn held(block: &[u8], at: usize, id: u8, edition: u8) -> Option<(usize, usize)> {
+    let bytes = block.get(at..)?;
+    match frame_at(bytes, seal(edition))?.1 {
+        PUT if bytes[5] == id => {}
+        SETTLED if bytes[4] == id => {}
+        _ => return None,
+    }
+    Some(value_at(block, at, edition))
+}
+
 /// Where the value of the put or settled frame at `at` stands, and its length.
 pub fn value_at(block: &[u8], at: usize, edition: u8) -> (usize, usize) {
     let head = if block[at + 2] == PUT { CHANGE } else { KEPT };

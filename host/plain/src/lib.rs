@@ -13,7 +13,7 @@ pub use crc::crc;
 use job::Phase;
 pub use job::Record;
 pub use journal::VALUE_LIMIT;
-use journal::{ABORT, BARE, CHANGE, COMMIT, DELETE, HEADER, Journal, MARK, PUT, State, blank, seal, value_at};
+use journal::{ABORT, BARE, CHANGE, COMMIT, DELETE, HEADER, Journal, MARK, PUT, State, blank, held, seal};
 use look::Look;
 use store::{Answer, Fault, Head, Idle, Store, Stretch};
 
@@ -43,13 +43,13 @@ fn begin_mount(image: &[u8], blocks: u8, record: &mut Record) -> Result<Answer, 
     if moves && journal.time == u32::MAX {
         return Err(Answer::WORN);
     }
-    let (length, end, edition) = (image.len(), journal.end as u16, journal.edition);
-    record.rest(Idle { length, block: block as u8, end, blocks, edition, pending: [0; 4] });
+    record.name(image.len(), blocks, block as u8, journal.end as u16, journal.edition);
+    record.places = journal.places;
     for other in (0..MOST).filter(|other| *other != block && look.used[*other]) {
         record.wipe(other);
     }
     if moves {
-        record.transfer(journal, edition, false);
+        record.transfer(journal, journal.edition, false);
     } else {
         mend(&image[size * block..], record, journal, pending);
     }
@@ -86,15 +86,14 @@ pub fn format(image: &[u8], blocks: u8, record: &mut Record) -> Answer {
         Err(refusal) => return refusal,
     };
     let current = Look::at(image, size).current();
-    let (length, end, edition) = (image.len(), HEADER as u16, 1);
-    record.rest(Idle { length, block: 0, end, blocks, edition, pending: [0; 4] });
+    record.name(image.len(), blocks, 0, HEADER as u16, 1);
     for block in (0..usize::from(blocks)).filter(|block| Some(*block) != current) {
         record.wipe(block);
     }
     if let Some(block) = current {
         record.wipe(block);
     }
-    record.make(0, 1, edition);
+    record.make(0, 1, 1);
     record.begin(image)
 }
 
@@ -107,7 +106,12 @@ pub fn request(
     message: &[u8],
     reply: &mut [u8],
 ) -> Answer {
-    serve(image, blocks, record, host, message, reply).unwrap_or_else(|refusal| refusal)
+    let served = if matches!(message, [_, _, 5, 1, ..]) {
+        read(image, blocks, record, host, message).map(|_| Answer::DONE)
+    } else {
+        serve(image, blocks, record, host, message, reply)
+    };
+    served.unwrap_or_else(|refusal| refusal)
 }
 
 fn serve(
@@ -138,25 +142,27 @@ fn serve(
         (3 | 4, []) if quiet => Ok(Answer::DONE),
         (3, []) => append(image, size, record, &journal, &[0, 0, COMMIT, 0, host], &[]),
         (4, []) => append(image, size, record, &journal, &[0, 0, ABORT, 0, host], &[]),
-        (5, [id, 0]) => settled(&journal, *id).map(|_| Answer::DONE),
         (6, [1]) => log(size, &journal, reply),
         (8, []) => convert(image, size, record, &journal),
         _ => Err(Answer::MALFORMED),
     }
 }
 
-/// Where a settled value stands.
+/// Where the record says that the value stands, if the frame of this id is there. Nothing else is looked at.
 pub fn read(image: &[u8], blocks: u8, record: &Record, host: u8, message: &[u8]) -> Result<Stretch, Answer> {
-    let mut journal = Journal::EMPTY;
-    let size = fresh(image, blocks, record, host, &mut journal)?;
-    match kind_of(message)? {
-        (5, [id, 0]) => {
-            let base = size * usize::from(record.block);
-            let (at, len) = value_at(&image[base..base + size], settled(&journal, *id)?, journal.edition);
-            Ok(Stretch { at: base + at, len })
-        }
-        _ => Err(Answer::MALFORMED),
+    let size = at_rest(image, blocks, record, host)?;
+    let [6, 0, 5, 1, id, 0] = *message else { return Err(Answer::MALFORMED) };
+    if !names(record, image, blocks) {
+        return Err(Answer::STALE);
     }
+    let place = usize::from(record.places[usize::from(id)]);
+    if place == 0 {
+        return Err(Answer::NO_OBJECT);
+    }
+    let base = size * usize::from(record.block);
+    let block = image.get(base..base + size).ok_or(Answer::STALE)?;
+    let (at, len) = held(block, place, id, record.edition).ok_or(Answer::STALE)?;
+    Ok(Stretch { at: base + at, len })
 }
 
 /// The bytes of a block, if image and number of blocks are allowed.
@@ -169,32 +175,38 @@ fn size_of(image: &[u8], blocks: u8) -> Result<usize, Answer> {
     if size < 256 { Err(Answer::IMAGE_LENGTH) } else { Ok(size) }
 }
 
-/// The refusals before a look at the message; the current block is read into `journal`. Gives the bytes of a block.
-fn fresh(image: &[u8], blocks: u8, record: &Record, host: u8, journal: &mut Journal) -> Result<usize, Answer> {
+/// The refusals of a request on any image, and the bytes of a block.
+fn at_rest(image: &[u8], blocks: u8, record: &Record, host: u8) -> Result<usize, Answer> {
     let size = size_of(image, blocks)?;
-    if host > 3 {
-        return Err(Answer::HOST_RANGE);
-    }
     match record.phase {
-        Phase::Idle => {}
-        Phase::Unmounted => return Err(Answer::NO_STORE),
-        _ => return Err(Answer::BUSY),
+        _ if host > 3 => Err(Answer::HOST_RANGE),
+        Phase::Idle => Ok(size),
+        Phase::Unmounted => Err(Answer::NO_STORE),
+        _ => Err(Answer::BUSY),
     }
-    let stale = image.len() != record.length as usize
-        || record.blocks != blocks
-        || record.block >= blocks
-        || !rests(image, size, record, journal);
-    if stale { Err(Answer::STALE) } else { Ok(size) }
 }
 
-/// Whether the record's block is valid up to the recorded end, with what the record says pending and room to settle, and all
-/// others are blank.
+/// Whether the record is of an image of this length and number of blocks.
+fn names(record: &Record, image: &[u8], blocks: u8) -> bool {
+    (record.length as usize, record.blocks) == (image.len(), blocks)
+}
+
+/// The refusals before a look at the message; the current block is read into `journal`. Gives the bytes of a block.
+fn fresh(image: &[u8], blocks: u8, record: &Record, host: u8, journal: &mut Journal) -> Result<usize, Answer> {
+    let size = at_rest(image, blocks, record, host)?;
+    let right = names(record, image, blocks) && record.block < blocks && rests(image, size, record, journal);
+    if right { Ok(size) } else { Err(Answer::STALE) }
+}
+
+/// Whether the record's block is valid up to the recorded end, with what the record says settled and pending and room to
+/// settle, and all others are blank.
 fn rests(image: &[u8], size: usize, record: &Record, journal: &mut Journal) -> bool {
     let (before, rest) = image.split_at(size * usize::from(record.block));
     let (block, after) = rest.split_at(size);
     journal.read(block) == State::Valid
         && journal.end == usize::from(record.end)
         && (journal.edition, journal.pending) == (record.edition, record.pending)
+        && journal.places == record.places
         && journal.torn == 0
         && blank(before)
         && blank(after)
@@ -208,13 +220,6 @@ fn kind_of(message: &[u8]) -> Result<(u8, &[u8]), Answer> {
             Ok((*kind, body))
         }
         _ => Err(Answer::MALFORMED),
-    }
-}
-
-fn settled(journal: &Journal, id: u8) -> Result<usize, Answer> {
-    match journal.places[usize::from(id)] {
-        0 => Err(Answer::NO_OBJECT),
-        place => Ok(usize::from(place)),
     }
 }
 
@@ -247,9 +252,11 @@ fn append(
     if transfer && journal.time == u32::MAX {
         return Err(Answer::WORN);
     }
-    record.rest(record.idle());
+    record.clear();
     if transfer {
         record.transfer(journal, journal.edition, true);
+    } else if head[2] == COMMIT {
+        record.settle(&image[size * usize::from(record.block)..], journal, head[4]);
     }
     record.append(head, value);
     Ok(record.begin(image))
@@ -266,7 +273,7 @@ fn convert(image: &[u8], size: usize, record: &mut Record, journal: &Journal) ->
     } else if journal.time == u32::MAX {
         Err(Answer::WORN)
     } else {
-        record.rest(record.idle());
+        record.clear();
         record.transfer(journal, 2, false);
         Ok(record.begin(image))
     }
@@ -328,7 +335,8 @@ impl Store for Plain {
 
     fn idle(&self, idle: Idle) -> Record {
         let mut record = Record::UNMOUNTED;
-        record.rest(idle);
+        record.name(idle.length, idle.blocks, idle.block, idle.end, idle.edition);
+        (record.pending, record.places) = (idle.pending, idle.places);
         record
     }
 

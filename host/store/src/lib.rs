@@ -62,9 +62,21 @@ pub struct Idle {
     pub edition: u8,
     /// By host, the bytes of its pending frames.
     pub pending: [u16; 4],
+    /// By id, where in the current block the frame starts that its settled value stands in; 0 for none (K8).
+    pub places: [u16; 256],
+}
+
+/// The places of these ids; the others have none.
+pub fn places(of: impl IntoIterator<Item = (u8, u16)>) -> [u16; 256] {
+    let mut places = [0; 256];
+    for (id, place) in of {
+        places[usize::from(id)] = place;
+    }
+    places
 }
 
 /// What anyone may know of a record; a job's inside is its store's own.
+#[expect(clippy::large_enum_variant, reason = "it is copied, and few are held at a time")]
 #[derive(Clone, Copy, PartialEq, Eq, Debug)]
 pub enum Head {
     Unmounted,

@@ -18,7 +18,7 @@ use contract.Lifetimes.{AllOutlive}
 use contract.Running.{givenOf}
 use types.Kit.{Given, Item, ‵, raw, _⊛_, ⋆, _$_, _∵_, !, qed, by, move, keep, drop, use2, split, join, fsplit, fsplit3, fjoin, fjoin3}
 use types.Kit.{feqL, feqI, suffices, frame, done}
-use types.Run.{look, look-raw, init, stop, hop, fld, from, load, addr, of-opd, and-then, no-more, assigns, returns, enter, alloc1, alloc0}
+use types.Run.{look, init, stop, hop, fld, from, load, addr, and-then, no-more, assigns, returns, enter, alloc1, alloc0}
 use types.Run.{params1, pass1, pass0, free0}
 use types.Part.{agg, whole, sub, look-in}
 use types.SemTy.{Body}
@@ -54,6 +54,7 @@ use Rattle.board.proofs.Record as B
 use Rattle.board.proofs.Record.Laws as B′
 use Rattle.queue.proofs.request as callee
 use Rattle.inplace.proofs.Lending.{R, board, answer, IsAnswer, board-typed, taken, told, stored, in-local, frees-at, meets}
+use Rattle.inplace.proofs.Taking.{apart}
 use Rattle.inplace.proofs.request_in_place.Key.{name as #self}
 use Rattle.inplace.proofs.request_in_place as self
 use Rattle.inplace.proofs.request_in_place.Statement as stated
@@ -167,51 +168,56 @@ module _ {M : Type 1} (𝓤 : URA M) (H : Heap 𝓤) (A : Atoms 𝓤) (W : Given
           enter ! C Λ code.function (slice i ∷ blocks ∷ p ∷ from-host ∷ slice m ∷ slice x ∷ []) _ $
           alloc1 ! (λ l₀. alloc1 !
           (λ l₁. alloc1 ! (λ l₂. alloc1 !
-          (λ l₃. alloc1 ! (λ l₄. alloc1 ! (λ l₅. alloc1 ! (λ l₆. alloc1 ! (λ l₇. alloc1 ! (λ l₈. alloc1 ! (λ l₉. alloc1 ! (λ l₁₀. alloc0 ! $
-          params1 ! $ pass1 ! (init ! 18 refl (tt, (tt, (record { fits = room-i .0 }, tt)))) $
-          pass1 ! (init ! 16 refl (tt, record { fits = is-blocks .1 })) $ pass1 ! (init ! 14 refl (tt, tt)) $
-          pass1 ! (init ! 12 refl (LL.lawful P.the-type P′.the-laws 𝓤 H A W .typed n _ is-host .0)) $
-          pass1 ! (init ! 10 refl (tt, (tt, (record { fits = room-m .0 }, tt)))) $
-          pass1 ! (init ! 8 refl (tt, (tt, (record { fits = room .0 }, tt)))) $ pass0 ! $
-          -- [_10; …; _9; …; _8; …; _7; …; _6; …; _5; …; _4; …; _3; …; _2; …; _1; …; _0; …; the tokens; what the parameters own]
-          move ! (23 ∷ []) $ fsplit ! $ move ! (1 ∷ []) $ fsplit ! $ drop ! $ fsplit ! $ fsplit3 ! $ drop ! $ move ! (2 ∷ []) $ fsplit ! $
+          (λ l₃. alloc1 ! (λ l₄. alloc1 ! (λ l₅. alloc1 ! (λ l₆. alloc1 ! (λ l₇. alloc1 ! (λ l₈. alloc1 ! (λ l₉. alloc1 ! (λ l₁₀. alloc1 ! (λ l₁₁. alloc1 !
+          (λ l₁₂. alloc1 ! (λ l₁₃. alloc1 ! (λ l₁₄. alloc1 ! (λ l₁₅. alloc1 ! (λ l₁₆. alloc1 ! (λ l₁₇. alloc0 ! $
+          params1 ! $ pass1 ! (init ! 32 refl (tt, (tt, (record { fits = room-i .0 }, tt)))) $
+          pass1 ! (init ! 30 refl (tt, record { fits = is-blocks .1 })) $ pass1 ! (init ! 28 refl (tt, tt)) $
+          pass1 ! (init ! 26 refl (LL.lawful P.the-type P′.the-laws 𝓤 H A W .typed n _ is-host .0)) $
+          pass1 ! (init ! 24 refl (tt, (tt, (record { fits = room-m .0 }, tt)))) $
+          pass1 ! (init ! 22 refl (tt, (tt, (record { fits = room .0 }, tt)))) $ pass0 ! $
+          -- [_17; …; _16; …; (to) _0; …; the tokens; what the parameters own]
+          move ! (37 ∷ []) $ fsplit ! $ move ! (1 ∷ []) $ fsplit ! $ drop ! $ fsplit ! $ fsplit3 ! $ drop ! $ move ! (2 ∷ []) $ fsplit ! $
           move ! (1 ∷ []) $ fsplit ! $ move ! (1 ∷ []) $ fsplit ! $
-          move ! (29 ∷ []) $ split ! $ move ! (1 ∷ []) $ split ! $ move ! (1 ∷ []) $ split ! $ move ! (1 ∷ []) $ split ! $
+          move ! (43 ∷ []) $ split ! $ move ! (1 ∷ []) $ split ! $ move ! (1 ∷ []) $ split ! $ move ! (1 ∷ []) $ split ! $
           move ! (9 ∷ 10 ∷ 3 ∷ []) $
           taken ! tt h (y .ptr .0) (y .ptr .1) (λ g.
-          -- [the record's cell; the open borrow; obs; auth; κ₃'s token; true; κ₂'s; κ₀'s; reply; true; message; host; image; _10; …; _9;
-          -- …; _8; …; _7; …; _6; …; _5; …; _4; …; _3; …; _2; …; _1; …; _0; …]
-          assigns ! (of-opd ! (load ! (from ! (hop ! (look ! 27 refl) (stop !))) (look-raw ! 0 refl))) (from ! (stop !))
-          (init ! 17 refl (board-typed W h g)) $
-          assigns ! (addr ! (from ! (fld ! refl (hop ! (look-in ! 21 (sub ! 0 refl (whole !))) (stop !))))) (from ! (stop !))
-          (init ! 15 refl (tt, tt)) $
-          assigns ! (agg ! (and-then ! (in-local ! 15 refl)
-          (and-then ! (load ! (from ! (fld ! refl (stop !))) (look-in ! 21 (sub ! 1 refl (whole !)))) (no-more !)))) (from ! (stop !))
-          (init ! 13 refl (tt, (tt, (record { fits = room .0 }, tt)))) $
+          -- [the record's cell; the open borrow; obs; auth; κ₃'s token; true; κ₂'s; κ₀'s; reply; true; message; host; image; _17; …; _16; …;
+          -- (to) _0; …]
+          move ! (0 ∷ 41 ∷ 31 ∷ 29 ∷ 27 ∷ 25 ∷ 23 ∷ 21 ∷ 19 ∷ 17 ∷ []) $
+          apart ! h (y .ptr .0) (y .ptr .1) (board-typed W h g) refl refl refl refl refl refl refl refl refl $
+          -- [the record's cell; _3; _8; _9; (to) _15; the open borrow; obs; auth; κ₃'s token; true; κ₂'s; κ₀'s; reply; true; message; host;
+          -- image; _17; …; _16; …; the ends of _15 to _8; _7; …; _6; …; _5; …; _4; …; _3's …; _2; …; _1; …; _0; …]
+          assigns ! (addr ! (from ! (fld ! refl (hop ! (look-in ! 36 (sub ! 0 refl (whole !))) (stop !))))) (from ! (stop !))
+          (init ! 24 refl (tt, tt)) $
+          assigns ! (agg ! (and-then ! (in-local ! 24 refl)
+          (and-then ! (load ! (from ! (fld ! refl (stop !))) (look-in ! 36 (sub ! 1 refl (whole !)))) (no-more !)))) (from ! (stop !))
+          (init ! 22 refl (tt, (tt, (record { fits = room .0 }, tt)))) $
           -- what the callee asks: what its parameters own, and its tokens
-          move ! (8 ∷ 9 ∷ []) $ fjoin ! $ move ! (9 ∷ 0 ∷ []) $ fjoin ! $ move ! (9 ∷ 0 ∷ []) $ fjoin ! $
+          move ! (17 ∷ 18 ∷ []) $ fjoin ! $ move ! (18 ∷ 0 ∷ []) $ fjoin ! $ move ! (18 ∷ 0 ∷ []) $ fjoin ! $
           owned ! R (Is R) (LL.makes B.the-type B′.the-plain 𝓤 H A) h _ g $ fjoin ! $
-          owned ! u8 (Is u8) (uint-makes 𝓤 H A W w8) N _ is-blocks $ fjoin ! $ move ! (9 ∷ 0 ∷ []) $ fjoin ! $
-          move ! (5 ∷ 6 ∷ []) $ join ! $ move ! (6 ∷ 0 ∷ []) $ join ! $ move ! (6 ∷ 0 ∷ []) $ join ! $
+          owned ! u8 (Is u8) (uint-makes 𝓤 H A W w8) N _ is-blocks $ fjoin ! $ move ! (18 ∷ 0 ∷ []) $ fjoin ! $
+          move ! (14 ∷ 15 ∷ []) $ join ! $ move ! (15 ∷ 0 ∷ []) $ join ! $ move ! (15 ∷ 0 ∷ []) $ join ! $
           use2 W (raw (Callee .pre to-callee)) asked $
           calls-at ! fm Callee known to-callee
-          (and-then ! (in-local ! 23 refl)
-          (and-then ! (in-local ! 21 refl)
-          (and-then ! (in-local ! 9 refl)
-          (and-then ! (in-local ! 17 refl) (and-then ! (in-local ! 15 refl) (and-then ! (in-local ! 5 refl) (no-more !))))))) (λ w.
+          (and-then ! (in-local ! 37 refl)
+          (and-then ! (in-local ! 35 refl)
+          (and-then ! (in-local ! 10 refl)
+          (and-then ! (in-local ! 32 refl) (and-then ! (in-local ! 30 refl) (and-then ! (in-local ! 14 refl) (no-more !))))))) (λ w.
           told callee.ended (callee.clauses 𝓤 H A at-mem run) to-callee ! tt w
           (λ r zs. Said (requestOn (asking N (i .now) h n (m .now) (x .now))) r (zs .1 .1 .1 .1 .1 .0)) (λ r zs. id⊢ 𝓤 _) (λ r zs e.
           fsplit ! $ drop ! $ fsplit ! $ drop ! $ fsplit ! $ drop ! $ fsplit ! $ drop ! $ fsplit ! $ drop ! $ fsplit ! $ fsplit ! $
           move ! (1 ∷ []) $ feqL ! (λ l.
-          -- [the last reply; true; the tokens; the outcome; the record's cell; the open borrow; obs; auth; _10; …; _9; …; _8; …; _7; …;
-          -- _6; …; _5; …; _4; …; _3; …; _2; …; _1; …; _0; …]
-          move ! (3 ∷ 4 ∷ 5 ∷ 6 ∷ 7 ∷ 14 ∷ 22 ∷ 28 ∷ []) $ stored ! r (y .ptr .0) (y .ptr .1) refl refl refl (λ is.
-          -- [obs; the borrow; its token; _7; _3; _0; the last reply; true; the tokens; _10; …; _9; …; _8; …; _7's …; _6; …; _5; …; _4; …;
-          -- _3's …; _2; …; _1; …; _0's …]
-          returns ! (look ! 5 refl) $ frees-at ! 5 26 refl refl $ frees-at ! 24 24 refl refl $ frees-at ! 22 22 refl refl $
-          frees-at ! 4 20 refl refl $ frees-at ! 18 18 refl refl $ frees-at ! 16 16 refl refl $ frees-at ! 14 14 refl refl $
-          frees-at ! 3 12 refl refl $ frees-at ! 10 10 refl refl $ frees-at ! 8 8 refl refl $ frees-at ! 6 6 refl refl $ free0 ! $
-          keep ! (0 ∷ 1 ∷ 2 ∷ 5 ∷ 3 ∷ []) $ by ! (exits r (zs .1 .1 .1 .1 .1 .0) e l is)))))))))))))))))
+          -- [the last reply; true; the tokens; the outcome; the record's cell; _3; _8; _9; (to) _15; the open borrow; obs; auth; _17; …; _16;
+          -- …; the ends of _15 to _8; _7; …; _6; …; _5; …; _4; …; _3's …; _2; …; _1; …; _0; …]
+          move ! (3 ∷ 4 ∷ 14 ∷ 15 ∷ 16 ∷ 29 ∷ 5 ∷ 42 ∷ []) $ stored ! r (y .ptr .0) (y .ptr .1) refl refl refl (λ is.
+          -- [obs; the borrow; its token; _7; _3; _0; the last reply; true; the tokens; _8; _9; (to) _15; _17; …; _16; …; the ends of _15 to
+          -- _8; _7's …; _6; …; _5; …; _4; …; _3's …; _2; …; _1; …; _0's …]
+          returns ! (look ! 5 refl) $ frees-at ! 5 40 refl refl $ frees-at ! 38 38 refl refl $ frees-at ! 36 36 refl refl $
+          frees-at ! 4 34 refl refl $ frees-at ! 32 32 refl refl $ frees-at ! 30 30 refl refl $ frees-at ! 28 28 refl refl $
+          frees-at ! 3 26 refl refl $ frees-at ! 6 24 refl refl $ frees-at ! 6 22 refl refl $ frees-at ! 6 20 refl refl $
+          frees-at ! 6 18 refl refl $ frees-at ! 6 16 refl refl $ frees-at ! 6 14 refl refl $ frees-at ! 6 12 refl refl $
+          frees-at ! 6 10 refl refl $ frees-at ! 8 8 refl refl $ frees-at ! 6 6 refl refl $ free0 ! $
+          keep ! (0 ∷ 1 ∷ 2 ∷ 5 ∷ 3 ∷ []) $ by ! (exits r (zs .1 .1 .1 .1 .1 .0) e l is))))))))))))))))))))))))
 
   walks : (C : Calls 𝓤 H) (Λ : Loops 𝓤 H) → FmC 𝓤 H (W .laws) C → Triple 𝓤 (C callee.Symbol.name) Callee
       → Walks 𝓤 H A self.ended stayed (WpFn 𝓤 H C Λ code.function) (self.clauses 𝓤 H A at-mem run)

@@ -1,5 +1,5 @@
--- `inplace::step_in_place` meets its contract: a walk of its MIR. The record is taken out of its borrow; the image is handed to `step` at
--- its own lifetime, share and name, so that nothing of it has to come back; the outcome is stored.
+-- `inplace::step_in_place` meets its contract: a walk of its MIR. The record is taken out of its borrow, and apart; the image is handed to
+-- `step` at its own lifetime, share and name, so that nothing of it has to come back; the outcome is stored.
 use mathlib.Core.Path.{_≡_, refl}
 use Prim.Native.Nat.{ℕ}
 use mathlib.Core.List.{[], _∷_, List}
@@ -18,7 +18,7 @@ use contract.Lifetimes.{AllOutlive}
 use contract.Running.{givenOf}
 use types.Kit.{Given, Item, ‵, raw, _⊛_, ⋆, _$_, _∵_, !, qed, by, move, keep, drop, use2, split, join, fsplit, fsplit3, fjoin, fjoin3}
 use types.Kit.{feqL, feqI, suffices, frame, done}
-use types.Run.{look, look-raw, init, stop, hop, fld, from, load, addr, of-opd, and-then, no-more, assigns, returns, enter, alloc1, alloc0}
+use types.Run.{look, init, stop, hop, fld, from, load, addr, and-then, no-more, assigns, returns, enter, alloc1, alloc0}
 use types.Run.{params1, pass1, pass0, free0}
 use types.Part.{agg, whole, sub, look-in}
 use types.SemTy.{Body}
@@ -52,6 +52,7 @@ use Rattle.board.proofs.Record.Laws as B′
 use Rattle.job.proofs.step as callee
 use Rattle.inplace.proofs.Lending.{R, board, answer, IsBoard, IsAnswer, board-typed, taken, told, stored, in-local, frees-at}
 use Rattle.inplace.proofs.Lending.{meets}
+use Rattle.inplace.proofs.Taking.{apart}
 use Rattle.inplace.proofs.step_in_place.Key.{name as #self}
 use Rattle.inplace.proofs.step_in_place as self
 use Rattle.inplace.proofs.step_in_place.Statement as stated
@@ -134,36 +135,40 @@ module _ {M : Type 1} (𝓤 : URA M) (H : Heap 𝓤) (A : Atoms 𝓤) (W : Given
           qed W ((‵ (flft κ q) ⊛ ‵ (flft κ′ q′) ⊛ ‵ ftrue) ∷ ‵ (owns (MutSlice (named 0) κ u8 ∷ u8 ∷ MutRef (named 1) κ′ R ∷ []) a vals) ∷
           []) ∵ enter ! C Λ code.function (s ∷ blocks ∷ p ∷ []) _ $
           alloc1 ! (λ l₀. alloc1 !
-          (λ l₁. alloc1 ! (λ l₂. alloc1 ! (λ l₃. alloc1 ! (λ l₄. alloc1 ! (λ l₅. alloc1 ! (λ l₆. alloc1 ! (λ l₇. alloc0 ! $ params1 ! $
-          pass1 ! (init ! 12 refl (tt, (tt, (record { fits = room .0 }, tt)))) $ pass1 ! (init ! 10 refl (tt, record { fits = is-blocks .1 })) $
-          pass1 ! (init ! 8 refl (tt, tt)) $ pass0 ! $
-          -- [_7; …; _6; …; _5; …; _4; …; _3; …; _2; …; _1; …; _0; …; the tokens; what the parameters own]
-          move ! (17 ∷ []) $ fsplit ! $ move ! (1 ∷ []) $ fsplit ! $ drop ! $ fsplit ! $ fsplit3 ! $ drop ! $ move ! (20 ∷ []) $ split ! $
+          (λ l₁. alloc1 ! (λ l₂. alloc1 ! (λ l₃. alloc1 ! (λ l₄. alloc1 ! (λ l₅. alloc1 ! (λ l₆. alloc1 ! (λ l₇. alloc1 ! (λ l₈. alloc1 ! (λ l₉. alloc1 !
+          (λ l₁₀. alloc1 ! (λ l₁₁. alloc1 ! (λ l₁₂. alloc1 ! (λ l₁₃. alloc1 ! (λ l₁₄. alloc0 ! $ params1 ! $
+          pass1 ! (init ! 26 refl (tt, (tt, (record { fits = room .0 }, tt)))) $ pass1 ! (init ! 24 refl (tt, record { fits = is-blocks .1 })) $
+          pass1 ! (init ! 22 refl (tt, tt)) $ pass0 ! $
+          -- [_14; …; _13; …; (to) _0; …; the tokens; what the parameters own]
+          move ! (31 ∷ []) $ fsplit ! $ move ! (1 ∷ []) $ fsplit ! $ drop ! $ fsplit ! $ fsplit3 ! $ drop ! $ move ! (34 ∷ []) $ split ! $
           move ! (1 ∷ []) $ split ! $ move ! (3 ∷ 4 ∷ 0 ∷ []) $
           taken ! tt h (y .ptr .0) (y .ptr .1) (λ g.
-          -- [the record's cell; the open borrow; obs; auth; true; κ's token; true; what the image owns; _7; …; _6; …; _5; …; _4; …; _3;
-          -- …; _2; …; _1; …; _0; …]
-          assigns ! (addr ! (from ! (fld ! refl (hop ! (look-in ! 20 (sub ! 0 refl (whole !))) (stop !))))) (from ! (stop !))
-          (init ! 12 refl (tt, tt)) $
-          assigns ! (agg ! (and-then ! (in-local ! 12 refl)
-          (and-then ! (load ! (from ! (fld ! refl (stop !))) (look-in ! 20 (sub ! 1 refl (whole !)))) (no-more !)))) (from ! (stop !))
-          (init ! 10 refl (tt, (tt, (record { fits = room .0 }, tt)))) $
-          assigns ! (of-opd ! (load ! (from ! (hop ! (look ! 16 refl) (stop !))) (look-raw ! 0 refl))) (from ! (stop !))
-          (init ! 8 refl (board-typed W h g)) $
-          move ! (5 ∷ 7 ∷ []) $ use2 W (raw (Callee .pre to-callee)) (goes is-blocks g) $
+          -- [the record's cell; the open borrow; obs; auth; true; κ's token; true; what the image owns; _14; …; _13; …; (to) _0; …]
+          assigns ! (addr ! (from ! (fld ! refl (hop ! (look-in ! 34 (sub ! 0 refl (whole !))) (stop !))))) (from ! (stop !))
+          (init ! 26 refl (tt, tt)) $
+          assigns ! (agg ! (and-then ! (in-local ! 26 refl)
+          (and-then ! (load ! (from ! (fld ! refl (stop !))) (look-in ! 34 (sub ! 1 refl (whole !)))) (no-more !)))) (from ! (stop !))
+          (init ! 24 refl (tt, (tt, (record { fits = room .0 }, tt)))) $
+          move ! (0 ∷ 30 ∷ 22 ∷ 20 ∷ 18 ∷ 16 ∷ 14 ∷ 12 ∷ 10 ∷ 8 ∷ []) $
+          apart ! h (y .ptr .0) (y .ptr .1) (board-typed W h g) refl refl refl refl refl refl refl refl refl $
+          -- [the record's cell; _3; _7; _8; (to) _14; the open borrow; obs; auth; true; κ's token; true; what the image owns; the ends of _14
+          -- to _7; _6; …; _5; …; _4; …; _3's …; _2; …; _1; …; _0; …]
+          move ! (14 ∷ 16 ∷ []) $ use2 W (raw (Callee .pre to-callee)) (goes is-blocks g) $
           calls-at ! fm Callee known to-callee
-          (and-then ! (in-local ! 9 refl) (and-then ! (in-local ! 17 refl) (and-then ! (in-local ! 7 refl) (no-more !)))) (λ w.
+          (and-then ! (in-local ! 24 refl) (and-then ! (in-local ! 31 refl) (and-then ! (in-local ! 10 refl) (no-more !)))) (λ w.
           told callee.ended (callee.clauses 𝓤 H A at-mem run) to-callee ! tt w (λ r zs. Said (stepOn N (x .now) h) (zs .0) r) (λ r zs. id⊢ 𝓤 _)
           (λ r zs e.
           fsplit ! $ fsplit ! $ move ! (1 ∷ []) $ feqL ! (λ l.
-          -- [the last image; true; κ's token; the outcome; the record's cell; the open borrow; obs; auth; true; true; _7; …; _6; …; _5;
-          -- …; _4; …; _3; …; _2; …; _1; …; _0; …]
-          move ! (3 ∷ 4 ∷ 5 ∷ 6 ∷ 7 ∷ 16 ∷ 18 ∷ 24 ∷ []) $ stored ! r (y .ptr .0) (y .ptr .1) refl refl refl (λ is.
-          -- [obs; the borrow; its token; _4; _3; _0; the last image; true; κ's token; true; true; _7; …; _6; …; _5; …; _4's …; _3's …;
-          -- _2; …; _1; …; _0's …]
-          returns ! (look ! 5 refl) $ frees-at ! 5 22 refl refl $ frees-at ! 20 20 refl refl $ frees-at ! 18 18 refl refl $
-          frees-at ! 4 16 refl refl $ frees-at ! 3 14 refl refl $ frees-at ! 12 12 refl refl $ frees-at ! 10 10 refl refl $ frees-at ! 8 8 refl refl $ free0 ! $
-          keep ! (0 ∷ 1 ∷ 2 ∷ 5 ∷ 3 ∷ []) $ by ! (exits r (zs .0) e l is))))))))))))))
+          -- [the last image; true; κ's token; the outcome; the record's cell; _3; _7; _8; (to) _14; the open borrow; obs; auth; true; true; the
+          -- ends of _14 to _7; _6; …; _5; …; _4; …; _3's …; _2; …; _1; …; _0; …]
+          move ! (3 ∷ 4 ∷ 14 ∷ 15 ∷ 16 ∷ 31 ∷ 5 ∷ 38 ∷ []) $ stored ! r (y .ptr .0) (y .ptr .1) refl refl refl (λ is.
+          -- [obs; the borrow; its token; _4; _3; _0; the last image; true; κ's token; _7; _8; (to) _14; true; true; the ends of _14 to _7;
+          -- _6; …; _5; …; _4's …; _3's …; _2; …; _1; …; _0's …]
+          returns ! (look ! 5 refl) $ frees-at ! 5 36 refl refl $ frees-at ! 34 34 refl refl $ frees-at ! 32 32 refl refl $
+          frees-at ! 4 30 refl refl $ frees-at ! 3 28 refl refl $ frees-at ! 26 26 refl refl $ frees-at ! 24 24 refl refl $
+          frees-at ! 6 22 refl refl $ frees-at ! 6 20 refl refl $ frees-at ! 6 18 refl refl $ frees-at ! 6 16 refl refl $
+          frees-at ! 6 14 refl refl $ frees-at ! 6 12 refl refl $ frees-at ! 6 10 refl refl $ frees-at ! 6 8 refl refl $ free0 ! $
+          keep ! (0 ∷ 1 ∷ 2 ∷ 5 ∷ 3 ∷ []) $ by ! (exits r (zs .0) e l is)))))))))))))))))))))
 
   walks : (C : Calls 𝓤 H) (Λ : Loops 𝓤 H) → FmC 𝓤 H (W .laws) C → Triple 𝓤 (C callee.Symbol.name) Callee
       → Walks 𝓤 H A self.ended stayed (WpFn 𝓤 H C Λ code.function) (self.clauses 𝓤 H A at-mem run)

@@ -1,8 +1,8 @@
 -- Words laid as bytes: after i turns the first i of them are there.
-use mathlib.Core.Path.{_≡_, _∙_}
+use mathlib.Core.Path.{_≡_, sym, ap, _∙_}
 use Prim.Native.Nat.{_-_, _≤_}
 use native.Mathlib.Omega.{arith}
-use lib.ListN.{length}
+use lib.ListN.{length, length-set}
 use denote.Ref.{now}
 use borrow.Author.Needs.{needs}
 use Rattle.pack.proofs.Laying.{wordsTo, no-words, word-more, words-all}
@@ -23,29 +23,41 @@ loop-holds c =
 mul-w : tie.Need-mul-w Inv-loop μ-loop
 mul-w c = omega (arith, c .before .before .before .before .good)
 
-mul-lay-at : tie.Need-mul-lay-at Inv-loop μ-loop
-mul-lay-at c = omega (arith, c .before .before .before .before .before .before .before .before .good)
+mul-bytes : tie.Need-mul-bytes Inv-loop μ-loop
+mul-bytes c = omega (arith, c .before .before .before .before .before .before .good)
 
-add-lay-at : tie.Need-add-lay-at Inv-loop μ-loop
-add-lay-at c = omega (
-  arith,
-  c .before .before .before .before .before .before .before .before .pre,
-  c .before .before .before .before .before .before .before .before .good,
-)
+add-bytes : tie.Need-add-bytes Inv-loop μ-loop
+add-bytes c = omega (arith, c .before .before .before .before .before .before .pre, c .before .before .before .before .before .before .good)
+
+slice-write-bytes : tie.Need-slice-write-bytes Inv-loop μ-loop
+slice-write-bytes c = omega (arith, c .before .before .before .before .before .before .pre, c .before .before .before .loop .inv .2)
+
+mul-bytes-2 : tie.Need-mul-bytes-2 Inv-loop μ-loop
+mul-bytes-2 c = omega (arith, c .before .before .before .before .before .before .before .good)
+
+add-bytes-2 : tie.Need-add-bytes-2 Inv-loop μ-loop
+add-bytes-2 c = omega (arith, c .before .before .before .before .before .before .before .pre, c .before .before .before .before .before .before .before .good)
+
+add-bytes-3 : tie.Need-add-bytes-3 Inv-loop μ-loop
+add-bytes-3 c = omega (arith, c .before .before .before .before .before .before .before .pre, c .before .before .before .before .before .before .before .good)
+
+slice-write-bytes-2 : tie.Need-slice-write-bytes-2 Inv-loop μ-loop
+slice-write-bytes-2 c =
+    let pre′ = c .before .before .before .before .before .before .before .pre in
+    simp length-set (omega (arith, pre′, c .before .before .before .before .loop .inv .2))
 
 add-i : tie.Need-add-i Inv-loop μ-loop
-add-i c = omega (arith, c .before .before .before .before .before .before .before .before .before .before .before .before .good)
+add-i c = omega (arith, c .before .before .before .before .before .before .before .good)
 
 loop-again : tie.Need-loop-again Inv-loop μ-loop
 loop-again c =
-    let c5 = c .before .before .before .before .before in
-    let c6 = c5 .before in
-    let c9 = c6 .before .before .before in
-    let c12 = c9 .before .before .before in (
-      c .before .before .lay-at .ensures ∙ rw (c6 .low .ensures, c5 .high .ensures, c9 .loop .inv .0) (word-more (c12 .args .at)
-          (now (c12 .args .words)) (now (c12 .args .bytes)) (c9 .loop .i) (omega arith) (omega (arith, c12 .pre))),
+    let loop′ = c .before .before .before .before .loop in
+    let args′ = c .before .before .before .before .before .before .before .args in
+    let pre′ = c .before .before .before .before .before .before .before .pre in (
+      rw (c .before .low .ensures, c .high .ensures, loop′ .inv .0) (word-more (args′ .at) (now (args′ .words)) (now (args′ .bytes)) (loop′ .i) (omega arith)
+          (omega (arith, pre′)) (sym (ap length (loop′ .inv .0)) ∙ loop′ .inv .2)),
       omega arith,
-      c .before .before .lay-at .kept .0 ∙ c9 .loop .inv .2,
+      simp length-set (loop′ .inv .2),
     )
 
 returns : tie.Need-returns Inv-loop μ-loop
@@ -56,5 +68,5 @@ returns c =
 
 pub lay-words-spec : {M : Type 1} → statement M
 lay-words-spec = tie.close (tie.spec
-    Inv-loop μ-loop loop-holds mul-w (λ c. search needs) (λ c κs. search needs) (λ c κs. search needs) mul-lay-at add-lay-at (λ c. search needs)
-    (λ c κs. search needs) add-i (λ c. search needs) loop-again (λ c. search needs) returns)
+    Inv-loop μ-loop loop-holds mul-w (λ c. search needs) (λ c κs. search needs) mul-bytes add-bytes slice-write-bytes (λ c κs. search needs) mul-bytes-2
+    add-bytes-2 add-bytes-3 slice-write-bytes-2 add-i (λ c. search needs) loop-again (λ c. search needs) returns)

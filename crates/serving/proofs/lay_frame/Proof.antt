@@ -11,21 +11,17 @@ use Rattle.serving.proofs.lay_frame.Tie as tie
 
 returns-3 : tie.Need-returns-3
 returns-3 c =
-    let c6 = c .before .before .before .before .before .before in
-    let ask′ = c .before .before .ask in
-    let value′ = c .before .before .before .before .value in
-    let args′ = c6 .args in
-    rw (ask′ .given .1) (c .encode-frame .ensures ∙ ap
-    (λ (v : List ℕ). bytesOf (args′ .edition) (change (args′ .host) (put (ask′ .given .0 .0) (take valueMax v)))) (value′ .ensures .0))
+    rw (c .before .before .before .ask .given .1) (c .lay .ensures ∙ ap
+    (λ (v : List ℕ). bytesOf (c .before .before .before .before .before .before .before .args .edition) (change (c .before .before .before .before .before .before .before .args .host) (put (c .before .before .before .ask .given .0 .0) (take valueMax v)))) (c .before .before .before .before .before .value .ensures .0))
 
 returns-4 : tie.Need-returns-4
-returns-4 c = rw (c .before .before .ask2 .given .1) (c .encode-frame2 .ensures)
+returns-4 c = rw (c .before .before .before .ask2 .given .1) (c .lay2 .ensures)
 
 returns-5 : tie.Need-returns-5
-returns-5 c = rw (c .before .enum-told .given .1) (c .encode-frame3 .ensures)
+returns-5 c = rw (c .before .before .enum-told .given .1) (c .lay3 .ensures)
 
 returns-6 : tie.Need-returns-6
-returns-6 c = rw (c .before .enum-told2 .given .1) (c .encode-frame4 .ensures)
+returns-6 c = rw (c .before .before .enum-told2 .given .1) (c .lay4 .ensures)
 
 returns-7 : tie.Need-returns-7
 returns-7 c = rw (c .before .enum-told5 .given .1) (c .no-frame .ensures)

@@ -18,23 +18,20 @@ abbrev μ-loop : tie.MeasureT-loop
 
 loop-holds : tie.Need-loop-holds Inv-loop μ-loop
 unfolding wordsIn
-loop-holds c = (refl, omega arith, refl)
+loop-holds c = (refl, omega arith, c .before .pre)
 
 loop-again : tie.Need-loop-again Inv-loop μ-loop
 unfolding wordsIn
 loop-again c =
-    let c3 = c .before .before .before in
-    let c5 = c3 .before .before in (
-      read-more (now (c5 .args .bytes)) (c3 .loop .words) (c3 .loop .i) (c .word-at .result) (c3 .loop .inv .0) (omega arith) (rw
-          (c .before .tail .ensures) at (c .word-at .ensures)),
+    let l = now (c .before .before .before .before .before .args .bytes) in (
+      read-more l (c .before .before .before .loop .words) (c .before .before .before .loop .i) (c .word-at .result) (c .before .before .before .loop .inv .0) (omega arith) (rw (c .before .tail .ensures) at (c .word-at .ensures)),
       omega arith,
       simp length-set (omega arith),
     )
 
 returns : tie.Need-returns Inv-loop μ-loop
 unfolding wordsIn
-returns c = read-all (now (c .before .before .before .args .bytes)) (c .before .loop .words) (c .before .loop .i) (c .before .loop .inv .0)
-    (omega arith) (c .before .loop .inv .2)
+returns c = read-all (now (c .before .before .before .args .bytes)) (c .before .loop .words) (c .before .loop .i) (c .before .loop .inv .0) (omega arith) (c .before .loop .inv .2)
 
 pub places-short-spec : {M : Type 1} → statement M
 places-short-spec = tie.close (tie.spec

@@ -5,6 +5,7 @@ use crate::book::{Lengths, Lists, SECOND, found, lengths};
 use crate::cuts::stuck;
 use crate::damage;
 use crate::generate::Wish;
+use crate::places;
 use crate::side::Modelled;
 use crate::twin::{Call, Outcome, UNWRITTEN};
 use model::frame::VALUE_LIMIT;
@@ -163,6 +164,7 @@ impl<M: Modelled, L: Drive, P: Store> Run<M, L, P> {
         let pending = [0, 1, 2, 3].map(|host| self.book.pending(host, lengths));
         assert_eq!(idle.pending.map(usize::from), pending, "the record's pending bytes are not the book's");
         assert!(pending.iter().all(|bytes| *bytes <= self.twin.size() / 2), "a host has more than half a block");
+        self.check_places(idle);
         let tight = self.edition == 2 && self.tight;
         self.twin.tally.second += u64::from(self.edition == 2);
         self.twin.tally.tight += u64::from(tight);
@@ -178,9 +180,23 @@ impl<M: Modelled, L: Drive, P: Store> Run<M, L, P> {
         if self.rng.once_in(100) {
             (0..=255).for_each(|id| self.check_read(id));
         } else {
-            let id = self.manner.id(&mut self.rng);
+            let held: Vec<u8> = self.book.objects.keys().copied().collect();
+            let any = held.is_empty() || self.rng.once_in(2);
+            let id = if any { self.manner.id(&mut self.rng) } else { self.rng.pick(&held) };
             self.check_read(id);
         }
+    }
+
+    /// The record's places are replay's, of exactly the book's objects; those from before a transfer are kept.
+    fn check_places(&mut self, idle: Idle) {
+        let replay = places::of_block(self.twin.block(usize::from(idle.block)));
+        assert_eq!(idle.places, replay, "the record's places are not replay's");
+        let placed = (0..=255).filter(|id| idle.places[usize::from(*id)] != 0);
+        assert!(placed.eq(self.book.objects.keys().copied()), "places of other objects than the book's");
+        if idle.block != self.last.0 {
+            self.old = self.last.1;
+        }
+        self.last = (idle.block, idle.places);
     }
 
     /// A mount of the image with up to three bytes harmed is refused for the same fault by all; the run goes on with the image.

@@ -10,6 +10,7 @@ use crate::edition;
 use crate::generate::{self, Manner, Wish};
 use crate::mend::{self, Dirt, Due};
 use crate::pending;
+use crate::places;
 use crate::raise;
 use crate::rng::Rng;
 use crate::side::{Modelled, Stores};
@@ -72,6 +73,9 @@ struct Run<M: Modelled, L: Drive, P: Store> {
     dirt: Dirt,
     plan: mend::Plan,
     rest: Option<(usize, usize)>,
+    /// Block and places of the last idle record, and the places of the last one of another block.
+    last: (u8, [u16; 256]),
+    old: [u16; 256],
 }
 
 /// By job, how often a mount or format began after its first step and before its last, in the run itself.
@@ -113,6 +117,8 @@ pub fn run_among<M: Modelled, L: Drive, P: Store>(stores: impl Fn() -> Stores<M,
         dirt: Dirt::up_to(HEADER, false),
         plan: mend::Plan::None,
         rest: None,
+        last: (0, [0; 256]),
+        old: [0; 256],
         rng,
     };
     run.wear.start(run.twin.erases());
@@ -172,6 +178,7 @@ impl<M: Modelled, L: Drive, P: Store> Run<M, L, P> {
             (Head::Idle(idle), 18..=20) => pending::mislead(&mut self.twin, &mut self.rng, idle),
             (Head::Idle(idle), 21) => edition::mislead(&mut self.twin, &mut self.rng, idle),
             (Head::Idle(_), 22) if self.edition == 1 && !self.calm => self.fill_up(),
+            (Head::Idle(idle), 23..=25) => places::mislead(&mut self.twin, &mut self.rng, idle, &self.old),
             (Head::Idle(_), 22..=96) => self.any_request(),
             (Head::Unmounted, 0..=19) => self.any_request(),
             (Head::Unmounted, 20..=24) => self.steps(1),

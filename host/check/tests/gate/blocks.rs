@@ -4,7 +4,7 @@ use check::cuts::newest;
 use check::raise;
 use check::rng::Rng;
 use check::twin::{Call, Twin};
-use store::{Answer, Fault, Field, Head, Idle, message};
+use store::{Answer, Fault, Field, Head, Idle, message, places};
 
 const S: usize = 256;
 pub const NUMBERS: std::ops::RangeInclusive<u8> = 2..=16;
@@ -85,11 +85,11 @@ fn a_mount_erases_every_other_block_in_number_order() {
         let others = |number: &usize| *number != current && !matches!(parts[*number], Blank);
         let order: Vec<usize> = (0..parts.len()).filter(others).collect();
         assert_eq!(erased(&mut mounted), (order.clone(), order.len()));
-        let idle =
-            Idle { length: S * parts.len(), block: current as u8, end: 25, blocks, edition: 1, pending: [0; 4] };
+        let (length, block, pending, places) = (S * parts.len(), current as u8, [0; 4], places([(5, 16)]));
+        let idle = Idle { length, block, end: 25, blocks, edition: 1, pending, places };
         assert_eq!(mounted.head(), Head::Idle(idle));
         for number in 0..parts.len() {
-            assert_eq!(mounted.block(number), block(if number == current { Valid(4) } else { Blank }));
+            assert_eq!(mounted.block(number), self::block(if number == current { Valid(4) } else { Blank }));
         }
         assert_eq!(mounted.value(5), Some(b"AB".to_vec()));
     }
@@ -143,8 +143,8 @@ fn format(parts: &[Part]) -> Vec<usize> {
     let mut left = vec![0xFF; S * parts.len()];
     left[..9].copy_from_slice(b"\x10\0\x01\x4A\xFE\xFF\xFF\xFF\xFC");
     assert_eq!(formatted.image(), left);
-    let idle =
-        Idle { length: left.len(), block: 0, end: 16, blocks: parts.len() as u8, edition: 1, pending: [0; 4] };
+    let (length, blocks, pending, places) = (left.len(), parts.len() as u8, [0; 4], [0; 256]);
+    let idle = Idle { length, block: 0, end: 16, blocks, edition: 1, pending, places };
     assert_eq!(formatted.head(), Head::Idle(idle));
     order
 }

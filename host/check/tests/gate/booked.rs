@@ -74,7 +74,7 @@ fn a_request_that_finds_the_record_stale() {
     let request = |image: &[u8], blocks, record: &mut Record, host, message: &[u8], reply: &mut [u8]| match Model
         .request(image, blocks, record, host, message, reply)
     {
-        Answer::NO_OBJECT => Answer::STALE,
+        Answer::SHORT_REPLY => Answer::STALE,
         answer => answer,
     };
     run(Altered { request, ..RIGHT }, 2);

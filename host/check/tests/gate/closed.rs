@@ -221,6 +221,7 @@ fn a_reset_is_for_all_hosts() {
             blocks: 2,
             edition: edition.number(),
             pending: [0, 0, after.len() as u16, 0],
+            places: [0; 256],
         };
         let mut board = Twin::new(&frames);
         board.forge(Idle { pending: [after.len() as u16; 4], ..right });

@@ -6,7 +6,7 @@ use check::side::{Modelled, Stores};
 use check::twin::{Call, Twin};
 use model::job::Step;
 use model::{Model, Record};
-use store::{Answer, Drive, Fault, Idle, Store, Stretch, message};
+use store::{Answer, Drive, Fault, Idle, Store, Stretch, message, places};
 
 const LENGTH: usize = 512;
 
@@ -129,13 +129,27 @@ fn a_record() {
 
 /// The same with other bytes pending.
 #[test]
-#[should_panic(expected = "end: 16, blocks: 2, edition: 1, pending: [0, 0, 1, 0] }), the model's Idle(")]
+#[should_panic(expected = "end: 16, blocks: 2, edition: 1, pending: [0, 0, 1, 0], places: [0, ")]
 fn a_record_of_other_pending_bytes() {
     in_plain(Altered {
         format: |image, blocks| {
             let (answer, record) = Model.format(image, blocks);
             let (steps, idle) = steps(&record).expect("a job");
             (answer, job(steps, Idle { pending: [0, 0, 1, 0], ..idle }))
+        },
+        ..RIGHT
+    });
+}
+
+/// The same with a place.
+#[test]
+#[should_panic(expected = "pending: [0, 0, 0, 0], places: [16, 0, ")]
+fn a_record_of_other_places() {
+    in_plain(Altered {
+        format: |image, blocks| {
+            let (answer, record) = Model.format(image, blocks);
+            let (steps, idle) = steps(&record).expect("a job");
+            (answer, job(steps, Idle { places: places([(0, 16)]), ..idle }))
         },
         ..RIGHT
     });

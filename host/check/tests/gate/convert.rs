@@ -4,7 +4,7 @@ use check::book::Objects;
 use check::cuts::{Allowed, Cuts, Start};
 use check::raise;
 use check::twin::{Call, Twin};
-use store::{Answer, Fault, Field, Idle, message};
+use store::{Answer, Fault, Field, Idle, message, places};
 
 const LENGTH: usize = 512;
 const S: usize = LENGTH / 2;
@@ -68,7 +68,8 @@ fn a_store_is_converted() {
     assert_eq!(board.ask(2, &message::convert()), Answer::PENDING);
     assert_eq!(board.serve(2, &message::commit()), done(6));
     assert_eq!(board.serve(2, &message::convert()), done(24));
-    let right = Idle { length: LENGTH, block: 1, end: 29, blocks: 2, edition: 2, pending: [0; 4] };
+    let (pending, places) = ([0; 4], places([(5, 16)]));
+    let right = Idle { length: LENGTH, block: 1, end: 29, blocks: 2, edition: 2, pending, places };
     assert_eq!(board.idle(), Some(right));
     let settled = [13, 0, 5, 0, 5, 0, 0x41, 0x42, 0xC1, 0xF5, 0x84, 0xE8, 0xFE];
     let image = [filled(&[], S), filled(&[&header(2, 2), &settled], S)].concat();
@@ -92,11 +93,12 @@ fn a_store_is_converted() {
 fn refusals_in_their_order() {
     // U in edition 1 is 233, in edition 2 it would be 257
     let values = settled_of(&[29, 29, 29, 29, 29, 30]);
-    let pending = [8, 0, 2, 0, 3, 9, 0, 0xFE];
-    let image = [filled(&[&header(1, u32::MAX), &values, &pending], S), filled(&[], S)].concat();
+    let delete = [8, 0, 2, 0, 3, 9, 0, 0xFE];
+    let image = [filled(&[&header(1, u32::MAX), &values, &delete], S), filled(&[], S)].concat();
     let mut board = Twin::new(&image);
-    let end = (16 + values.len() + pending.len()) as u16;
-    let right = Idle { length: LENGTH, block: 0, end, blocks: 2, edition: 1, pending: [0, 0, 0, 8] };
+    let end = (16 + values.len() + delete.len()) as u16;
+    let (pending, places) = ([0, 0, 0, 8], places((1..=6).map(|id| (id, 16 + 36 * u16::from(id - 1)))));
+    let right = Idle { length: LENGTH, block: 0, end, blocks: 2, edition: 1, pending, places };
     let bad = message::message(message::CONVERT, &[0]);
     board.blocks = 1;
     assert_eq!(board.ask(4, &bad), Answer::IMAGE_LENGTH);

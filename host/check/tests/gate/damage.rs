@@ -1,10 +1,11 @@
 //! Damage tried systematically.
 
+use check::places::told;
 use check::twin::{Call, Twin};
 use model::block::HEADER;
 use model::edition::Edition::First;
 use model::frame::{self, Host, Id, VALUE_LIMIT};
-use store::{Answer, Idle, Stretch, message};
+use store::{Answer, Idle, Stretch, message, places};
 
 const LENGTH: usize = 512;
 /// An image with room for the longest frames, and its block.
@@ -39,11 +40,13 @@ fn rich() -> Twin {
     twin
 }
 
-/// The model's and the library's answers to whatever may be asked are the same, whichever single byte is changed.
+/// The model's and the library's answers to whatever may be asked are the same, whichever single byte is changed. A read notices
+/// what is changed in its frame, the put of six bytes to object 4, and nothing else.
 #[test]
 fn every_single_byte_change() {
     let mut twin = rich();
     let (image, idle) = (twin.image().to_vec(), twin.idle().expect("idle"));
+    let place = usize::from(idle.places[4]);
     for at in 0..LENGTH {
         for byte in 0..=255 {
             let mut changed = image.clone();
@@ -51,12 +54,17 @@ fn every_single_byte_change() {
             twin.load(&changed);
             twin.call(&Call::Mount);
             twin.forge(idle);
-            twin.call(&Call::Read { host: 0, message: message::read(4) });
+            let read = twin.call(&Call::Read { host: 0, message: message::read(4) });
+            assert_eq!((read.answer, read.stretch), told(&changed, &idle, 4));
+            let value = Stretch { at: place + 7, len: 6 };
+            assert!((place..place + 14).contains(&at) || read.stretch == value, "byte {at} is {byte}");
             twin.ask(0, &message::log());
         }
     }
+    // all changes of eight bytes but three of the host, and lengths up to another frame's last byte
+    let unread = twin.tally.of("read", Answer::STALE);
+    assert!((8 * 255 - 3 - 20..8 * 255 - 3).contains(&unread), "{unread} reads were refused");
     let refused = twin.tally.of("request", Answer::STALE);
-    assert_eq!(twin.tally.of("read", Answer::STALE), refused);
     assert!(refused > 110_000, "only {refused} changes were noticed");
     assert!(twin.tally.of("request", Answer::DONE) > LENGTH as u64);
 }
@@ -194,7 +202,8 @@ fn frames_of_the_longest_value() {
 fn frames_to_the_very_end() {
     let last = [frame::put(First, Host(0), Id(2), b"last"), frame::commit(First, Host(0))].concat();
     let mut twin = with_tail(&last, last.len());
-    twin.forge(Idle { length: LONG, block: 0, end: S as u16, blocks: 2, edition: 1, pending: [0; 4] });
+    let (pending, places) = ([0; 4], places([(1, 16), (2, (S - last.len()) as u16)]));
+    twin.forge(Idle { length: LONG, block: 0, end: S as u16, blocks: 2, edition: 1, pending, places });
     assert_eq!(twin.ask(1, &message::commit()), Answer::DONE);
     assert_eq!(twin.whole(&Call::Mount), (Answer::DONE, 0));
     assert_eq!(twin.ids(), [1, 2]);
@@ -286,10 +295,9 @@ fn a_foreign_block_is_erased_beside_a_valid_one() {
             blocks.rotate_left(block);
             let mut twin = Twin::new(&blocks.concat());
             assert_eq!(twin.whole(&Call::Mount), (Answer::DONE, 1), "byte {at}");
-            assert_eq!(
-                twin.idle(),
-                Some(Idle { length: LONG, block: block as u8, end: 27, blocks: 2, edition: 1, pending: [0; 4] })
-            );
+            let (pending, places) = ([0; 4], places([(1, 16)]));
+            let idle = Idle { length: LONG, block: block as u8, end: 27, blocks: 2, edition: 1, pending, places };
+            assert_eq!(twin.idle(), Some(idle));
             assert_eq!(twin.image()[(1 - block) * S..][..S], [0xFF; S]);
             assert_eq!(twin.value(1), Some(b"kept".to_vec()));
         }

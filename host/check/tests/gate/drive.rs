@@ -6,7 +6,7 @@ use check::forged;
 use check::mend;
 use check::rng::Rng;
 use check::twin::{Call, Twin};
-use library::{Driven, EDITION, JOB, Library, PENDING, RECORD_SIZE, Record, STAGES};
+use library::{Driven, EDITION, JOB, Library, PENDING, PLACES, RECORD_SIZE, Record, STAGES};
 use model::edition::Edition;
 use std::collections::BTreeMap;
 use store::{Answer, Head, Idle, Store, Told, message};
@@ -43,12 +43,18 @@ const BYTES: [(usize, &[u8]); 15] = [
     (JOB.start + 51, &[0, 1, 6, 10, 250, 251, 252, 254, 255]),
 ];
 
-/// Two-byte fields: end, what the first and the last host have pending, then in the job each host's mark, the places to close,
-/// next offset, next id, next frame to copy.
-const WORDS: [usize; 14] = [
+/// Two-byte fields: end, what the first and the last host have pending, the places of the objects that the jobs know and of the
+/// last one, then in the job each host's mark, the places to close, next offset, next id, next frame to copy.
+const WORDS: [usize; 20] = [
     4,
     PENDING.start,
     PENDING.end - 2,
+    PLACES.start + 2,
+    PLACES.start + 4,
+    PLACES.start + 6,
+    PLACES.start + 8,
+    PLACES.start + 14,
+    PLACES.end - 2,
     JOB.start + 24,
     JOB.start + 26,
     JOB.start + 28,
@@ -62,8 +68,9 @@ const WORDS: [usize; 14] = [
     JOB.start + 48,
 ];
 
-/// A job of each kind on an image of so many blocks, in edition 1 and in edition 2: format, append, append after a transfer,
-/// mount with erase and reset, with a closing before the reset, with erase and transfer; between the editions a convert.
+/// A job of each kind on an image of so many blocks, in edition 1 and in edition 2: format, append, commit, append and commit
+/// after a transfer, mount with erase and reset, with a closing before the reset, with erase and transfer; between the editions
+/// a convert.
 fn jobs(blocks: u8, length: usize) -> Vec<Board> {
     let mut twin = Twin::formatted_of(blocks, length);
     assert_eq!(twin.serve(0, &message::put(7, b"both")).0, Answer::DONE);
@@ -90,6 +97,7 @@ fn jobs_from(mut twin: Twin) -> Vec<Board> {
     let format = library.format(twin.image(), blocks).1;
     let mut jobs = vec![Board { image: twin.image().to_vec(), blocks, record: format }];
     jobs.push(asked(twin.image(), blocks, &message::put(9, &[9; 20])));
+    jobs.extend(commits(twin.image(), blocks));
     let (value, start) = (vec![7; (size / 8).min(200)], block(&twin));
     while block(&twin) == start {
         let transfer = asked(twin.image(), blocks, &message::put(2, &value));
@@ -114,6 +122,33 @@ fn jobs_from(mut twin: Twin) -> Vec<Board> {
         jobs.push(Board { image, blocks, record });
     }
     jobs
+}
+
+/// Commits of host 1, which has put an object and deleted one: behind its changes, and where another host's put ends the block.
+fn commits(image: &[u8], blocks: u8) -> [Board; 2] {
+    let mut twin = Twin::of_blocks(blocks, image);
+    assert_eq!(twin.whole(&Call::Mount), (Answer::DONE, 0));
+    let serve = |twin: &mut Twin, host, message: &[u8]| assert_eq!(twin.serve(host, message).0, Answer::DONE);
+    let commit = |twin: &Twin| {
+        let (library, image) = (Library::linked(), twin.image().to_vec());
+        let mut record = library.idle(twin.idle().expect("idle"));
+        assert_eq!(library.request(&image, blocks, &mut record, 1, &message::commit(), &mut []), Answer::MORE);
+        Board { image, blocks, record }
+    };
+    serve(&mut twin, 1, &message::put(4, b"x"));
+    serve(&mut twin, 1, &message::delete(7));
+    let short = commit(&twin);
+    let frame = |twin: &Twin| Edition::ALL[usize::from(twin.idle().expect("idle").edition) - 1].change();
+    let free = |twin: &Twin| twin.size() - usize::from(twin.idle().expect("idle").end);
+    while free(&twin) > 120 {
+        let value = vec![0; (free(&twin) - 40).min(80)];
+        serve(&mut twin, 2, &message::put(3, &value));
+        serve(&mut twin, 2, &message::abort());
+    }
+    let rest = vec![3; free(&twin) - frame(&twin)];
+    serve(&mut twin, 3, &message::put(3, &rest));
+    assert_eq!(free(&twin), 0);
+    [short, commit(&twin)]
 }
 
 /// The board with some fields of its record at their limits, in any stage, and now and then other bytes. Where the record
@@ -282,7 +317,7 @@ fn forged_records() {
 fn images_of_other_lengths() {
     let library = Library::linked();
     let mut rng = Rng::new(7);
-    let real = jobs(2, 512).swap_remove(2);
+    let real = jobs(2, 512).swap_remove(4);
     let mut seen = Seen::new();
     for length in [1, 2, 3, 17, 18, 255, 256, 511, 513, 65_535, 65_536] {
         for _ in 0..60 {

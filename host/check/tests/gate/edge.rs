@@ -1,7 +1,7 @@
 //! The edge to C: buffers of wrong sizes, forged records in no job, nothing kept between calls.
 
 use check::rng::Rng;
-use library::{EDITION, Library, RECORD_SIZE, Record, UNCOUNTED, UNTOLD};
+use library::{Library, PLACES, RECORD_SIZE, Record, UNCOUNTED, UNTOLD};
 use store::{Answer, Head, Store, Stretch, Told, message};
 
 const LENGTH: usize = 512;
@@ -69,7 +69,7 @@ fn records_of_no_phase() {
     }
 }
 
-/// An idle record's first sixteen bytes decide, whatever the others are.
+/// An idle record's bytes up to its last place decide, whatever the others are.
 #[test]
 fn idle_records_with_other_bytes_set() {
     let library = Library::linked();
@@ -77,7 +77,7 @@ fn idle_records_with_other_bytes_set() {
     let mut rng = Rng::new(2);
     for _ in 0..100 {
         let mut record: Record = rng.bytes(RECORD_SIZE).try_into().expect("a record's bytes");
-        record[..=EDITION].copy_from_slice(&tidy[..=EDITION]);
+        record[..PLACES.end].copy_from_slice(&tidy[..PLACES.end]);
         let kept = record;
         no_steps(&library, &mut image, &mut record);
         assert_eq!(library.request(&image, 2, &mut record, 0, &message::read(1), &mut []), Answer::NO_OBJECT);

@@ -165,6 +165,7 @@ fn the_longest_jobs() {
                 blocks,
                 edition: 1,
                 pending: [0; 4],
+                places: store::places((0..=255).map(|id| (id, 16 + u16::from(id) * (7 + value as u16)))),
             })
         );
     }

@@ -75,10 +75,9 @@ fn the_order_of_the_erases() {
             }
             assert_eq!(twin.finish(), (Answer::DONE, 10));
             assert_eq!(twin.image(), [block(&FORMATTED), block(&[])].concat());
-            assert_eq!(
-                twin.head(),
-                Head::Idle(Idle { length: LENGTH, block: 0, end: 16, blocks: 2, edition: 1, pending: [0; 4] })
-            );
+            let (pending, places) = ([0; 4], [0; 256]);
+            let idle = Idle { length: LENGTH, block: 0, end: 16, blocks: 2, edition: 1, pending, places };
+            assert_eq!(twin.head(), Head::Idle(idle));
             seen[order[1]] += 1;
         }
     }

@@ -148,13 +148,24 @@ fn a_commit_that_settles_nothing() {
 fn a_mount_that_keeps_what_is_pending() {
     let mount = |image: &[u8], blocks| match &read(image, blocks)[..] {
         [Block::Valid(journal), Block::Blank] if !journal.torn => {
-            let end = journal.end as u16;
-            (
-                Answer::DONE,
-                Record::Idle(Idle { length: image.len(), block: 0, end, blocks, edition: 1, pending: [0; 4] }),
-            )
+            let (length, end, pending) = (image.len(), journal.end as u16, [0; 4]);
+            let places = check::places::of_block(cut(image, blocks)[0]);
+            (Answer::DONE, Record::Idle(Idle { length, block: 0, end, blocks, edition: 1, pending, places }))
         }
         _ => Model.mount(image, blocks),
+    };
+    cut_everywhere(Altered { mount, ..RIGHT }, Ample);
+}
+
+#[test]
+#[should_panic(expected = "other places after a mount")]
+fn a_mount_that_finds_no_places() {
+    let mount = |image: &[u8], blocks| match Model.mount(image, blocks) {
+        (answer, Record::Idle(idle)) => (answer, Record::Idle(Idle { places: [0; 256], ..idle })),
+        (answer, record) => match steps(&record) {
+            Some((steps, idle)) => (answer, job(steps, Idle { places: [0; 256], ..idle })),
+            None => (answer, record),
+        },
     };
     cut_everywhere(Altered { mount, ..RIGHT }, Ample);
 }

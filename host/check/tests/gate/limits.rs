@@ -3,7 +3,7 @@
 use super::blocks::{NUMBERS, Part, image, twin};
 use check::pending::of_block;
 use check::twin::{Call, Twin};
-use store::{Answer, Fault, Field, Idle, message};
+use store::{Answer, Fault, Field, Idle, message, places};
 
 const LENGTH: usize = 512;
 const S: usize = LENGTH / 2;
@@ -32,8 +32,8 @@ fn recorded(size: usize, time: u32, frames: &[Vec<u8>]) -> Twin {
     assert!(end <= size);
     image.resize(2 * size, 0xFF);
     let mut twin = Twin::new(&image);
-    let pending = of_block(&image[..size]);
-    twin.forge(Idle { length: 2 * size, block: 0, end: end as u16, blocks: 2, edition: 1, pending });
+    let (pending, places) = (of_block(&image[..size]), check::places::of_block(&image[..size]));
+    twin.forge(Idle { length: 2 * size, block: 0, end: end as u16, blocks: 2, edition: 1, pending, places });
     twin
 }
 
@@ -78,23 +78,23 @@ fn one_mark_left(before: &[Vec<u8>]) -> Twin {
 fn a_mark_where_c_and_six_are_s() {
     // a commit that finds nothing pending takes up room, and does not count in C
     let idle_mark = vec![6, 0, 3, 0, 3, 0xFE];
-    for (message, kind, ids) in [(message::abort(), 4, vec![]), (message::commit(), 3, vec![3, 4])] {
+    // the puts of ids 3 and 4 stand at 160 and 226, in the block that a transfer makes too
+    let (settled, none) = (places([(3, 160), (4, 226)]), places([]));
+    for (message, kind, ids, places) in
+        [(message::abort(), 4, vec![], none), (message::commit(), 3, vec![3, 4], settled)]
+    {
         let mut twin = one_mark_left(&[]);
         assert_eq!(twin.ask(0, &message::delete(3)), Answer::HOST_FULL);
         assert_eq!(twin.ask(1, &message::delete(3)), Answer::NO_ROOM);
         assert_eq!(twin.serve(0, &message), done(6));
-        assert_eq!(
-            twin.idle(),
-            Some(Idle { length: LENGTH, block: 0, end: 256, blocks: 2, edition: 1, pending: [0; 4] })
-        );
+        let idle =
+            |block| Idle { length: LENGTH, block, end: 256, blocks: 2, edition: 1, pending: [0; 4], places };
+        assert_eq!(twin.idle(), Some(idle(0)));
         assert_eq!(twin.ids(), ids);
 
         let mut twin = one_mark_left(std::slice::from_ref(&idle_mark));
         assert_eq!(twin.serve(0, &message), done(250 - 5 + 6));
-        assert_eq!(
-            twin.idle(),
-            Some(Idle { length: LENGTH, block: 1, end: 256, blocks: 2, edition: 1, pending: [0; 4] })
-        );
+        assert_eq!(twin.idle(), Some(idle(1)));
         assert_eq!(twin.image()[LENGTH - 6..], [6, 0, kind, 0, 0, 0xFE]);
         assert_eq!(twin.ids(), ids);
     }
@@ -107,7 +107,7 @@ fn pending(open: u8, room: usize) -> Twin {
     recorded(S, 1, &[others, vec![put(0, 9, &vec![7; left])]].concat())
 }
 
-/// 11 is given from S + 1 on, to a log and a read too; with S every host can still commit.
+/// 11 is given from S + 1 on, to a log too; with S every host can still commit.
 #[test]
 fn changes_that_leave_no_room_for_their_marks() {
     for open in 1..=4 {
@@ -119,10 +119,10 @@ fn changes_that_leave_no_room_for_their_marks() {
         assert_eq!(right.ids().len(), usize::from(open));
 
         let mut wrong = pending(open, S + 1);
-        for message in [message::log(), message::read(1), message::commit(), message::abort(), vec![]] {
+        for message in [message::log(), message::commit(), message::abort(), vec![]] {
             assert_eq!(wrong.ask(0, &message), Answer::STALE, "{open} hosts");
             let read = wrong.call(&Call::Read { host: 3, message });
-            assert_eq!((read.answer, read.stretch.len), (Answer::STALE, 0));
+            assert_eq!((read.answer, read.stretch.len), (Answer::MALFORMED, 0));
         }
     }
 }

@@ -4,7 +4,7 @@ use check::book::Objects;
 use check::cuts::{Allowed, Cuts, Start};
 use check::twin::{Call, Outcome, Twin};
 use model::edition::Edition;
-use store::{Answer, Head, Idle, Stretch, message};
+use store::{Answer, Head, Idle, Stretch, message, places};
 
 const LENGTH: usize = 1_024;
 const LONGEST_VALUE: usize = 240;
@@ -16,8 +16,10 @@ fn done(steps: usize) -> (Answer, usize) {
     (Answer::DONE, steps)
 }
 
-fn idle(block: u8, end: usize) -> Head {
-    Head::Idle(Idle { length: LENGTH, block, end: end as u16, blocks: 2, edition: 1, pending: [0; 4] })
+/// One object is settled, in the frame at this place.
+fn idle(block: u8, end: usize, object: (u8, u16)) -> Head {
+    let (end, pending, places) = (end as u16, [0; 4], places([object]));
+    Head::Idle(Idle { length: LENGTH, block, end, blocks: 2, edition: 1, pending, places })
 }
 
 fn request(host: u8, message: Vec<u8>) -> Call {
@@ -28,7 +30,7 @@ fn kept() -> Twin {
     let mut twin = Twin::formatted(LENGTH);
     assert_eq!(twin.serve(0, &message::put(1, KEPT)), done(12));
     assert_eq!(twin.serve(0, &message::commit()), done(6));
-    assert_eq!(twin.head(), idle(0, 34));
+    assert_eq!(twin.head(), idle(0, 34, (1, 16)));
     twin
 }
 
@@ -62,7 +64,7 @@ fn values_of_every_length() {
         let value = vec![size as u8; size];
         assert_eq!(twin.serve(3, &message::put(255, &value)), done(8 + size));
         assert_eq!(twin.serve(3, &message::commit()), done(6));
-        assert_eq!(twin.head(), idle(0, 16 + 8 + size + 6));
+        assert_eq!(twin.head(), idle(0, 16 + 8 + size + 6, (255, 16)));
         assert_eq!(twin.value(255), Some(value));
     }
     for size in [241, 242, 246, 247, 248, 249, 250, 255, 256, 257, 300, 65_529] {
@@ -133,7 +135,7 @@ fn a_put_cut_after_each_byte() {
                 image[end - 1] = 0xFE;
             }
             assert_eq!(cut_after(&mut twin, cut), done(steps), "{cut} bytes");
-            assert_eq!((twin.image(), twin.head()), (&image[..], idle(0, end)), "{cut} bytes");
+            assert_eq!((twin.image(), twin.head()), (&image[..], idle(0, end, (1, 16))), "{cut} bytes");
             assert_eq!(twin.value(1), Some(KEPT.to_vec()));
         }
     }
@@ -152,11 +154,11 @@ fn a_commit_of_a_long_value_cut_after_each_byte() {
             assert_eq!(answer, Answer::DONE);
             if cut < 6 {
                 assert_eq!((recovered, stretch.of(twin.image())), (done(closes(cut) + 5), KEPT));
-                assert_eq!(twin.head(), idle(0, 282 + if cut == 0 { 5 } else { 11 }));
+                assert_eq!(twin.head(), idle(0, 282 + if cut == 0 { 5 } else { 11 }, (1, 16)));
             } else {
                 assert_eq!((recovered, stretch), (done(0), Stretch { at: 41, len: LONGEST_VALUE }));
                 assert_eq!(stretch.of(twin.image()), value);
-                assert_eq!(twin.head(), idle(0, 288));
+                assert_eq!(twin.head(), idle(0, 288, (1, 34)));
             }
         }
     }
@@ -185,7 +187,7 @@ fn long_values_cut_anywhere() {
         assert_eq!(twin.serve(1, &message::delete(1)), done(8));
         job(&twin, None, &Call::Mount, &after, &after);
         assert_eq!(twin.whole(&Call::Mount), done(263 - 5));
-        assert_eq!(twin.head(), idle(1, 263));
+        assert_eq!(twin.head(), idle(1, 263, (1, 16)));
         assert_eq!(twin.value(1).as_ref(), Some(&value));
         // Each step leaves an image of its own, unless it programs 0xFF: in the value, and in three bytes of the time.
         let changing = value.iter().filter(|byte| **byte != 0xFF).count();
@@ -203,11 +205,9 @@ fn before_a_transfer() -> Twin {
     assert_eq!(twin.serve(0, &put(4)), done(LONGEST_FRAME));
     assert_eq!(twin.serve(0, &message::commit()), done(6));
     assert_eq!(twin.serve(3, &put(7)), done(LONGEST_FRAME));
-    let pending = [0, 0, 0, 248];
-    assert_eq!(
-        twin.idle(),
-        Some(Idle { length: 2 * LENGTH, block: 0, end: 1_020, blocks: 2, edition: 1, pending })
-    );
+    let (pending, places) = ([0, 0, 0, 248], places([(4, 518), (9, 270)]));
+    let idle = Idle { length: 2 * LENGTH, block: 0, end: 1_020, blocks: 2, edition: 1, pending, places };
+    assert_eq!(twin.idle(), Some(idle));
     twin
 }
 
@@ -216,10 +216,9 @@ fn before_a_transfer() -> Twin {
 fn a_transfer_of_long_values() {
     let mut twin = before_a_transfer();
     assert_eq!(twin.serve(3, &message::commit()), done(753 + 6));
-    assert_eq!(
-        twin.idle(),
-        Some(Idle { length: 2 * LENGTH, block: 1, end: 764, blocks: 2, edition: 1, pending: [0; 4] })
-    );
+    let (pending, places) = ([0; 4], places([(4, 16), (7, 510), (9, 263)]));
+    let idle = Idle { length: 2 * LENGTH, block: 1, end: 764, blocks: 2, edition: 1, pending, places };
+    assert_eq!(twin.idle(), Some(idle));
     let value = |id: u8| vec![id; LONGEST_VALUE];
     let settled = |id: u8| [&[0xF7, 0, 5, 0, id, 0][..], &value(id), &[0xFE]].concat();
     let put = [&[0xF8, 0, 1, 0, 3, 7, 0][..], &value(7), &[0xFE]].concat();

@@ -8,7 +8,7 @@ use check::side::Stores;
 use check::twin::{Call, Twin};
 use model::edition::Edition;
 use model::frame::{self, Host, Id};
-use store::{Answer, Head, Idle, message};
+use store::{Answer, Head, Idle, message, places};
 
 const S: usize = 256;
 
@@ -274,7 +274,8 @@ fn a_transfer_leaves_them_behind() {
         let mut board = Twin::new(&image(2, 0, (edition, 7), &frames));
         let (end, pending) = (16 + frames.concat().len(), [0, (first.len() + second.len()) as u16, 0, 0]);
         let (length, number) = (2 * S, edition.number());
-        board.forge(Idle { length, block: 0, end: end as u16, blocks: 2, edition: number, pending });
+        let places = places([(1, 16)]);
+        board.forge(Idle { length, block: 0, end: end as u16, blocks: 2, edition: number, pending, places });
         let last = put(5, 40);
         assert!(end + last.len() > S);
         let claimed = 16 + [&settled[..], &first, &second].concat().len();

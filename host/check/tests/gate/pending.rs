@@ -200,7 +200,7 @@ fn before_the_last_time() {
     assert_eq!(twin.ask(0, &put(1, 48)), Answer::WORN);
 }
 
-/// Each count alone at other values, and counts that are right for another host: 11 to every request and read, whoever asks.
+/// Each count alone at other values, and counts that are right for another host: 11 to every request but a read, whoever asks.
 #[test]
 fn records_of_other_counts() {
     let mut twin = Twin::formatted(LENGTH);
@@ -224,7 +224,7 @@ fn records_of_other_counts() {
             assert_eq!(twin.ask(host, message), Answer::STALE, "{pending:?}");
         }
         let read = twin.call(&Call::Read { host: 3, message: message::read(1) });
-        assert_eq!((read.answer, read.stretch.len), (Answer::STALE, 0));
+        assert_eq!((read.answer, read.stretch.len), (Answer::NO_OBJECT, 0));
         assert_eq!((twin.image(), twin.idle()), (&image[..], Some(Idle { pending, ..right })));
     }
     twin.forge(right);
@@ -242,11 +242,12 @@ fn more_than_half_a_block_from_before() {
         let mut image = Twin::formatted(LENGTH).image().to_vec();
         image[16..16 + frames.len()].copy_from_slice(&frames);
         let mut twin = Twin::new(&image);
-        twin.forge(Idle { length: LENGTH, block: 0, end: 232, blocks: 2, edition: 1, pending: [0, 216, 0, 0] });
+        let (pending, places) = ([0, 216, 0, 0], [0; 256]);
+        twin.forge(Idle { length: LENGTH, block: 0, end: 232, blocks: 2, edition: 1, pending, places });
         for message in [put(1, 0), message::delete(1)] {
             assert_eq!(twin.ask(1, &message), Answer::HOST_FULL);
         }
         assert_eq!(twin.serve(1, &end), done(6));
-        assert_eq!((pending(&twin), twin.ids()), ([0; 4], ids));
+        assert_eq!((self::pending(&twin), twin.ids()), ([0; 4], ids));
     }
 }

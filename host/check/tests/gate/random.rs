@@ -1,5 +1,6 @@
 //! Random runs and damaged images, fixed seeds. `cargo run --release -p check` makes more rounds of the same.
 
+use check::places::Wrong;
 use check::rounds::{Rounds, Sum};
 use check::side::Stores;
 use check::tally::Tally;
@@ -42,6 +43,19 @@ fn seen_editions(tally: &Tally) {
     assert!(tally.editions > 50, "{} editions were wrong", tally.editions);
 }
 
+/// Places were wrong in every way, and reads answered by them as the way allows, not just a few times.
+fn seen_places(tally: &Tally) {
+    for how in Wrong::ALL {
+        let answer = match how {
+            Wrong::None => Answer::NO_OBJECT,
+            Wrong::OtherValue => Answer::DONE,
+            _ => Answer::STALE,
+        };
+        let count = tally.places(how, answer);
+        assert!(count > 10, "{how:?}: {count} reads answered {answer}");
+    }
+}
+
 /// Mounts found nothing to do, closed a frame, dropped changes, both, and made a transfer because the reset did not fit.
 fn seen_mends(tally: &Tally) {
     for what in ["clean", "closed", "reset", "closed and reset", "moved"] {
@@ -72,11 +86,12 @@ fn seen_runs(sum: &Sum) {
     seen(&sum.own, "request", &[0, 1, 2, 4, 5, 6, 7, 8, 9, 10, 11, 12, 16, 255].map(Answer));
     seen_pending(&sum.own);
     seen_editions(&sum.own);
+    seen_places(&sum.own);
     seen_mends(&sum.own);
     seen_cut_mends(&sum.own);
     seen(&sum.own, "step", &[0, 11, 255].map(Answer));
     seen(&sum.own, "run", &[0, 11, 255].map(Answer));
-    seen(&sum.own, "read", &[0, 4, 5, 8, 10, 11].map(Answer));
+    seen(&sum.own, "read", &[0, 1, 4, 5, 8, 10, 11].map(Answer));
     for job in ["put", "delete", "commit", "abort", "convert", "mount", "format"] {
         assert!(sum.midway.contains_key(job), "no {job} of a run was cut between its steps");
     }
@@ -118,6 +133,7 @@ fn seen_images(sum: &Sum) {
     seen(&sum.tally, "request", &[0, 1, 2, 6, 7, 8, 9, 10, 11, 12, 16, 255].map(Answer));
     seen_pending(&sum.tally);
     seen_mends(&sum.tally);
+    seen_places(&sum.tally);
     assert!(sum.tally.editions > 100, "{} editions were wrong", sum.tally.editions);
     seen(&sum.tally, "read", &[0, 1, 2, 8, 10, 11].map(Answer));
 }

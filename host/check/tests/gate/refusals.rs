@@ -25,10 +25,15 @@ fn in_a_job() -> Twin {
     twin
 }
 
+/// A record of nothing settled or pending.
+fn record(length: usize, block: u8, end: u16) -> Idle {
+    Idle { length, block, end, blocks: 2, edition: 1, pending: [0; 4], places: [0; 256] }
+}
+
 /// A record that the image does not bear out.
 fn misplaced() -> Twin {
     let mut twin = formatted();
-    twin.forge(Idle { length: LENGTH, block: 0, end: 17, blocks: 2, edition: 1, pending: [0; 4] });
+    twin.forge(record(LENGTH, 0, 17));
     twin
 }
 
@@ -91,9 +96,7 @@ fn unmounted() {
 
 #[test]
 fn a_record_that_is_not_the_images_goes_before_the_message() {
-    let messages =
-        [message::put(2, b"y"), message::read(1), message::log(), message::commit(), MALFORMED.to_vec()];
-    let record = |length, block, end| Idle { length, block, end, blocks: 2, edition: 1, pending: [0; 4] };
+    let messages = [message::put(2, b"y"), message::log(), message::commit(), MALFORMED.to_vec()];
     let wrong = [
         record(768, 0, 16),
         record(511, 0, 16),
@@ -112,7 +115,7 @@ fn a_record_that_is_not_the_images_goes_before_the_message() {
             let mut twin = formatted();
             twin.forge(idle);
             assert_eq!(refusal(&mut twin, 1, message, 0), Answer::STALE);
-            assert_eq!(read(&mut twin, 1, message), (Answer::STALE, Stretch::default()));
+            assert_eq!(read(&mut twin, 1, message), (Answer::MALFORMED, Stretch::default()));
         }
     }
 }
@@ -154,14 +157,7 @@ fn an_image_without_room_for_the_commits() {
         image[16..16 + frames.len()].copy_from_slice(&frames);
         let mut twin = Twin::new(&image);
         let pending = of_block(&image[..LENGTH / 2]);
-        twin.forge(Idle {
-            length: LENGTH,
-            block: 0,
-            end: 16 + frames.len() as u16,
-            blocks: 2,
-            edition: 1,
-            pending,
-        });
+        twin.forge(Idle { pending, ..record(LENGTH, 0, 16 + frames.len() as u16) });
         assert_eq!(twin.ask(0, &message::commit()), expected);
     }
 }
@@ -264,10 +260,7 @@ fn a_transfer_at_the_last_time() {
         assert_eq!(twin.serve(0, &message::put(id, &[])), (Answer::DONE, 8));
     }
     let pending = [16, 0, 0, 0];
-    assert_eq!(
-        twin.head(),
-        Head::Idle(Idle { length: LENGTH, block: 0, end: 248, blocks: 2, edition: 1, pending })
-    );
+    assert_eq!(twin.head(), Head::Idle(Idle { pending, ..record(LENGTH, 0, 248) }));
     assert_eq!(twin.serve(0, &message::commit()), (Answer::DONE, 6));
     assert_eq!(refusal(&mut twin, 0, &message::delete(1), 0), Answer::WORN);
     assert_eq!(refusal(&mut twin, 0, &message::put(1, &[7; 64]), 0), Answer::WORN);

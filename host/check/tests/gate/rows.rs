@@ -2,7 +2,7 @@
 //! its K7 has them.
 
 use check::twin::{Call, Outcome, Twin, UNWRITTEN};
-use store::{Answer, Head, Idle, Stretch, hex, message};
+use store::{Answer, Head, Idle, Stretch, hex, message, places};
 
 const S: usize = 256;
 
@@ -40,6 +40,9 @@ fn after_puts(last: usize) -> Twin {
     twin
 }
 
+/// Where row i's puts of 72 bytes stand, with a commit after each.
+const PUTS_OF_I: [(u8, u16); 3] = [(1, 16), (2, 94), (3, 172)];
+
 fn after_i() -> Twin {
     after_puts(64)
 }
@@ -55,13 +58,14 @@ fn empty_put_to_4() -> Vec<u8> {
     message::put(4, &[])
 }
 
-/// Nothing is pending.
+/// Nothing is pending, and nothing settled.
 fn idle(block: u8, end: u16) -> Head {
-    pending(block, end, [0; 4])
+    pending(block, end, [0; 4], &[])
 }
 
-fn pending(block: u8, end: u16, pending: [u16; 4]) -> Head {
-    Head::Idle(Idle { length: 2 * S, block, end, blocks: 2, edition: 1, pending })
+fn pending(block: u8, end: u16, pending: [u16; 4], settled: &[(u8, u16)]) -> Head {
+    let places = places(settled.iter().copied());
+    Head::Idle(Idle { length: 2 * S, block, end, blocks: 2, edition: 1, pending, places })
 }
 
 /// A block that begins with these bytes and is 0xFF after them.
@@ -99,14 +103,14 @@ fn a_format() {
 fn b_put() {
     let twin = after_b();
     assert_eq!(twin.image(), [block(WITH_B), block("")].concat());
-    assert_eq!(twin.head(), pending(0, 26, [0, 0, 10, 0]));
+    assert_eq!(twin.head(), pending(0, 26, [0, 0, 10, 0], &[]));
 }
 
 #[test]
 fn c_commit() {
     let twin = after_c();
     assert_eq!(twin.image(), [block(WITH_C), block("")].concat());
-    assert_eq!(twin.head(), idle(0, 32));
+    assert_eq!(twin.head(), pending(0, 32, [0; 4], &[(5, 16)]));
 }
 
 #[test]
@@ -164,7 +168,7 @@ fn h_cut_after_the_finish_byte() {
 #[test]
 fn i_three_long_values() {
     let mut twin = after_i();
-    assert_eq!(twin.head(), idle(0, 250));
+    assert_eq!(twin.head(), pending(0, 250, [0; 4], &PUTS_OF_I));
     assert_eq!(twin.log()[8..], [3, 0, 229, 0, 0, 1]);
     assert_eq!(twin.serve(0, &message::delete(9)), done(229 - 5 + 8));
     assert_eq!(twin.serve(0, &message::delete(9)), done(8));
@@ -177,7 +181,7 @@ fn i_without_commits() {
     let mut twin = after_a();
     assert_eq!(twin.serve(0, &message::put(1, &[1; 64])), done(72));
     assert_eq!(twin.ask(0, &message::put(2, &[2; 64])), Answer::HOST_FULL);
-    assert_eq!(twin.head(), pending(0, 88, [72, 0, 0, 0]));
+    assert_eq!(twin.head(), pending(0, 88, [72, 0, 0, 0], &[]));
 }
 
 #[test]
@@ -200,12 +204,12 @@ fn k_no_room_by_one_byte() {
 #[test]
 fn l_delete_with_a_transfer() {
     let mut twin = before_l();
-    assert_eq!(twin.head(), idle(0, 250));
+    assert_eq!(twin.head(), pending(0, 250, [0; 4], &PUTS_OF_I));
     assert_eq!(twin.serve(0, &message::delete(1)), done(232));
-    assert_eq!(twin.head(), pending(1, 237, [8, 0, 0, 0]));
+    assert_eq!(twin.head(), pending(1, 237, [8, 0, 0, 0], &[(1, 16), (2, 87), (3, 158)]));
     assert_eq!(twin.serve(0, &message::commit()), done(6));
     assert_eq!(twin.serve(0, &empty_put_to_4()), done(8));
-    assert_eq!(twin.head(), pending(1, 251, [8, 0, 0, 0]));
+    assert_eq!(twin.head(), pending(1, 251, [8, 0, 0, 0], &[(2, 87), (3, 158)]));
 
     let settled = |id: u8| [vec![0x47, 0, 5, 0, id, 0], vec![id; 64], vec![0xFE]].concat();
     let header = bytes("10 00 01 4A FD FF FF FF FC FF FF FF FF FF FF FF");
@@ -254,11 +258,9 @@ fn o_value_limits() {
     let mut twin = Twin::formatted(1_024);
     assert_eq!(twin.ask(0, &message::put(9, &value)), Answer::MORE);
     assert_eq!(twin.finish(), done(248));
-    let pending = [248, 0, 0, 0];
-    assert_eq!(
-        twin.head(),
-        Head::Idle(Idle { length: 1_024, block: 0, end: 264, blocks: 2, edition: 1, pending })
-    );
+    let (pending, places) = ([248, 0, 0, 0], [0; 256]);
+    let idle = Idle { length: 1_024, block: 0, end: 264, blocks: 2, edition: 1, pending, places };
+    assert_eq!(twin.head(), Head::Idle(idle));
     let frame = [&bytes("F8 00 01 00 00 09 00")[..], &value, &[0xFE]].concat();
     assert_eq!(twin.image()[16..264], frame);
 

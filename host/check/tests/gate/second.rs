@@ -4,7 +4,7 @@ use super::convert::{done, filled, formatted, header, idle, second, serve, settl
 use check::twin::{Call, Twin};
 use model::edition::Edition::Second;
 use model::frame::{self, Id};
-use store::{Answer, Fault, Field, Idle, message};
+use store::{Answer, Fault, Field, Idle, message, places};
 
 const LENGTH: usize = 512;
 const S: usize = LENGTH / 2;
@@ -90,7 +90,7 @@ fn a_format_writes_edition_1() {
     assert_eq!((idle(&board).edition, board.ids()), (1, vec![]));
 }
 
-/// Every other number than the block's edition is 11, whatever is asked.
+/// Every other number than the block's edition is 11, whatever is asked, but a read of what has no place.
 #[test]
 fn records_of_other_editions() {
     let messages = [message::put(1, b"x"), message::delete(1), message::log(), message::convert(), vec![]];
@@ -102,7 +102,7 @@ fn records_of_other_editions() {
             for message in &messages {
                 assert_eq!(board.ask(0, message), Answer::STALE, "edition {edition}");
             }
-            assert_eq!(board.call(&Call::Read { host: 0, message: message::read(1) }).answer, Answer::STALE);
+            assert_eq!(board.call(&Call::Read { host: 0, message: message::read(1) }).answer, Answer::NO_OBJECT);
             assert_eq!((board.idle(), board.image()), (Some(wrong), &image[..]));
         }
         board.forge(right);
@@ -158,7 +158,8 @@ fn room_in_refusal_11() {
         let settled = frame::settled(Second, Id(1), &vec![7; size]);
         let mut board = Twin::new(&image_of(&[&settled, &DELETE]));
         let end = (16 + settled.len() + DELETE.len()) as u16;
-        board.forge(Idle { length: LENGTH, block: 0, end, blocks: 2, edition: 2, pending: [0, 12, 0, 0] });
+        let (pending, places) = ([0, 12, 0, 0], places([(1, 16)]));
+        board.forge(Idle { length: LENGTH, block: 0, end, blocks: 2, edition: 2, pending, places });
         assert_eq!(board.ask(1, &message::commit()), expected);
     }
 }

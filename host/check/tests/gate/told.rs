@@ -3,7 +3,7 @@
 use super::blocks::NUMBERS;
 use check::blocks::allowed;
 use check::twin::{Call, Twin, UNWRITTEN};
-use store::{Answer, Head, Idle, message};
+use store::{Answer, Head, Idle, message, places};
 
 const S: usize = 256;
 
@@ -98,7 +98,8 @@ fn a_call_told_another_number_changes_nothing() {
     }
 }
 
-/// A record that says any other number of blocks, or a block that is not there, is 11, and no step divides by it.
+/// A record that says any other number of blocks, or a block that is not there, is 11, and no step divides by it. A read that
+/// has no place needs no block.
 #[test]
 fn forged_records() {
     for blocks in NUMBERS {
@@ -116,6 +117,8 @@ fn forged_records() {
         }
         for block in 1..=255 {
             twin.forge(Idle { block, ..right });
+            assert_eq!(answers(&mut twin), [Answer::DONE, Answer::DONE, Answer::STALE, Answer::NO_OBJECT]);
+            twin.forge(Idle { block, places: places([(5, 16)]), ..right });
             assert_eq!(answers(&mut twin), [Answer::DONE, Answer::DONE, Answer::STALE, Answer::STALE]);
         }
         twin.forge(right);

@@ -4,7 +4,7 @@ use check::cuts::{Allowed, Cuts, Start};
 use check::twin::{Call, Twin};
 use model::block::{self, Block};
 use model::block_of;
-use store::{Answer, Idle, message};
+use store::{Answer, Idle, message, places};
 
 const LENGTH: usize = 512;
 const S: usize = LENGTH / 2;
@@ -136,10 +136,9 @@ fn the_time_is_inverted() {
     older[5] = 0xFF;
     twin.load(&image);
     assert_eq!(twin.whole(&Call::Mount), done(1));
-    assert_eq!(
-        twin.idle(),
-        Some(Idle { length: LENGTH, block: 1, end: 16, blocks: 2, edition: 1, pending: [0; 4] })
-    );
+    let (pending, places) = ([0; 4], [0; 256]);
+    let idle = Idle { length: LENGTH, block: 1, end: 16, blocks: 2, edition: 1, pending, places };
+    assert_eq!(twin.idle(), Some(idle));
 }
 
 #[test]
@@ -195,8 +194,9 @@ fn an_empty_value() {
 fn pending_changes_go_over_a_transfer() {
     let mut twin = before_a_transfer();
     assert_eq!(twin.serve(0, &message::put(1, &[2; 64])), done(71 + 72));
-    let pending = [28 + 72, 0, 0, 13];
-    assert_eq!(twin.idle(), Some(Idle { length: LENGTH, block: 1, end: 148, blocks: 2, edition: 1, pending }));
+    let (pending, places) = ([28 + 72, 0, 0, 13], places([(7, 16), (9, 28)]));
+    let idle = Idle { length: LENGTH, block: 1, end: 148, blocks: 2, edition: 1, pending, places };
+    assert_eq!(twin.idle(), Some(idle));
 
     let settled_7 = [&[0x0C, 0, 5, 0, 7, 0][..], b"seven", &[0xFE]].concat();
     let settled_9 = vec![0x07, 0, 5, 0, 9, 0, 0xFE];

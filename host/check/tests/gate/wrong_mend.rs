@@ -220,14 +220,14 @@ fn closed_frames_counted_in_c() {
     let request = |image: &[u8], blocks, record: &mut Record, host, message: &[u8], reply: &mut [u8]| {
         let before = record.clone();
         let answer = Model.request(image, blocks, record, host, message, reply);
+        if answer != Answer::MORE {
+            return answer;
+        }
         let Some((_, journal)) = current(image, blocks) else { return answer };
         let closed = journal.frames.iter().filter(|frame| frame.body == Body::Closed);
         let closed: usize = closed.map(|frame| frame.place.len()).sum();
         let claimed = replay(&journal).claimed();
-        if answer == Answer::MORE
-            && matches!(message[2], 1 | 2)
-            && room(&replay(&journal), claimed + closed, host, message)
-        {
+        if matches!(message[2], 1 | 2) && room(&replay(&journal), claimed + closed, host, message) {
             *record = before;
             return Answer::NO_ROOM;
         }

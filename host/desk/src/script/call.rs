@@ -13,7 +13,7 @@ type Made = Result<Back, String>;
 
 pub struct Call<S: Store> {
     pub name: &'static str,
-    /// The words that go with it, in brackets what may be left out.
+    /// The words that go with it, in brackets what may be left out; dots stand behind one that may come again.
     pub takes: &'static str,
     make: fn(&mut Board<S>, &[Word]) -> Made,
 }
@@ -40,7 +40,7 @@ impl<S: Store> Call<S> {
         Call { name: "log", takes: "HOST", make: log },
         Call { name: "dump", takes: "", make: dump },
         Call { name: "record", takes: "", make: record },
-        Call { name: "idle", takes: "LEN HALF END [blocks=BLOCKS] [edition=E] [pending=A,B,C,D]", make: idle },
+        Call { name: "idle", takes: "LEN HALF END [FIELD]..", make: idle },
         Call { name: "unmount", takes: "", make: unmount },
         Call { name: "poke", takes: "OFFSET HEX", make: poke },
     ];
@@ -48,8 +48,9 @@ impl<S: Store> Call<S> {
     /// Makes the call with the words that follow its name on the line.
     pub fn make(&self, board: &mut Board<S>, words: Words) -> Made {
         let takes = self.takes.split_whitespace();
-        let (least, most) = (takes.clone().filter(|word| !word.starts_with('[')).count(), takes.count());
-        let words: Vec<Word> = words.take(most + 1).collect::<Result<_, _>>()?;
+        let least = takes.clone().filter(|word| !word.starts_with('[')).count();
+        let most = if self.takes.ends_with("..") { usize::MAX } else { takes.count() };
+        let words: Vec<Word> = words.take(most.saturating_add(1)).collect::<Result<_, _>>()?;
         if (least..=most).contains(&words.len()) {
             return (self.make)(board, &words);
         }
@@ -191,18 +192,21 @@ fn dump<S: Store>(board: &mut Board<S>, _: &[Word]) -> Made {
 fn record<S: Store>(board: &mut Board<S>, _: &[Word]) -> Made {
     Ok(Back::Plain(match board.head() {
         Head::Unmounted => "unmounted".to_string(),
-        Head::Idle(Idle { length, block, end, blocks, edition, pending: [a, b, c, d] }) => {
+        Head::Idle(Idle { length, block, end, blocks, edition, pending: [a, b, c, d], places }) => {
             let head = format!("idle len={length} half={block} end={end}");
-            format!("{head} blocks={blocks} edition={edition} pending={a},{b},{c},{d}")
+            let placed = places.iter().enumerate().filter(|(_, place)| **place != 0);
+            let places: String = placed.map(|(id, place)| format!(" place={id}:{place}")).collect();
+            format!("{head} blocks={blocks} edition={edition} pending={a},{b},{c},{d}{places}")
         }
         Head::Job => "job".to_string(),
     }))
 }
 
-/// Fields that are not given are as after a format of this board: its number of blocks, edition 1, nothing pending.
+/// Fields that are not given are as after a format of this board: its number of blocks, edition 1, nothing pending, no places.
+/// A place may be given again.
 fn idle<S: Store>(board: &mut Board<S>, words: &[Word]) -> Made {
     let (length, block, end) = (words[0].number(1, 65_536)?, words[1].byte()?, words[2].short()?);
-    let (mut blocks, mut edition, mut pending) = (None, None, None);
+    let (mut blocks, mut edition, mut pending, mut places) = (None, None, None, [0; 256]);
     for word in &words[3..] {
         let again = if let Some(number) = word.field("blocks") {
             blocks.replace(number.byte()?).is_some()
@@ -210,6 +214,10 @@ fn idle<S: Store>(board: &mut Board<S>, words: &[Word]) -> Made {
             edition.replace(number.number(1, 2)? as u8).is_some()
         } else if let Some(numbers) = word.field("pending") {
             pending.replace(numbers.four()?).is_some()
+        } else if let Some(pair) = word.field("place") {
+            let (id, place) = pair.place()?;
+            places[usize::from(id)] = place;
+            false
         } else {
             return Err(format!("{} is no field of a record", word.said()));
         };
@@ -219,7 +227,7 @@ fn idle<S: Store>(board: &mut Board<S>, words: &[Word]) -> Made {
     }
     let (blocks, edition) = (blocks.unwrap_or(board.blocks), edition.unwrap_or(1));
     let pending = pending.unwrap_or_default();
-    board.record = board.store.idle(Idle { length, block, end, blocks, edition, pending });
+    board.record = board.store.idle(Idle { length, block, end, blocks, edition, pending, places });
     Ok(Back::Ok)
 }
 

@@ -43,6 +43,14 @@ impl Word<'_> {
         numbers.try_into().map_err(|_| wrong())
     }
 
+    /// An object's id and an offset with a colon between them.
+    pub fn place(&self) -> Result<(u8, u16), String> {
+        let pair = if let Word::Plain(word) = self { word.split_once(':') } else { None };
+        let pair = pair.filter(|(id, place)| !id.is_empty() && !place.is_empty());
+        let (id, place) = pair.ok_or_else(|| format!("{} is not ID:OFFSET", self.said()))?;
+        Ok((Word::Plain(id).byte()?, Word::Plain(place).short()?))
+    }
+
     /// What stands behind `name=` in this word, if anything does.
     pub fn field(&self, name: &str) -> Option<Word<'_>> {
         match self {

@@ -47,12 +47,12 @@ fn a_convert() {
         ("run", "0 steps=6"),
         ("req 2 04000801 0", "more"),
         ("run", "0 steps=24"),
-        ("record", "idle len=512 half=1 end=29 blocks=2 edition=2 pending=0,0,0,0"),
+        ("record", "idle len=512 half=1 end=29 blocks=2 edition=2 pending=0,0,0,0 place=5:16"),
         ("read 0 060005010500", "0 at=278 len=2"),
         ("req 2 04000801 0", "0"),
-        ("idle 512 1 29", "ok"),
+        ("idle 512 1 29 place=5:16", "ok"),
         ("req 2 04000801 0", "11"),
-        ("idle 512 1 29 edition=2", "ok"),
+        ("idle 512 1 29 place=5:16 edition=2", "ok"),
         ("req 2 04000801 0", "0"),
         ("poke 282 00", "ok"),
         ("mount", "3 half=1 fault=crc place=24"),
@@ -78,7 +78,7 @@ fn bytes_of_edition_2() {
         ("dump", &converted[..]),
         ("req 2 0800010105004142 0", "more"),
         ("run", "0 steps=14"),
-        ("record", "idle len=512 half=1 end=43 blocks=2 edition=2 pending=0,0,14,0"),
+        ("record", "idle len=512 half=1 end=43 blocks=2 edition=2 pending=0,0,14,0 place=5:16"),
         ("dump", &put),
         ("req 2 04000301 0", "more"),
         ("run", "0 steps=10"),
@@ -88,7 +88,7 @@ fn bytes_of_edition_2() {
         ("run", "0 steps=12"),
         ("mount", "more"),
         ("run", "0 steps=9"),
-        ("record", "idle len=512 half=1 end=74 blocks=2 edition=2 pending=0,0,0,0"),
+        ("record", "idle len=512 half=1 end=74 blocks=2 edition=2 pending=0,0,0,0 place=5:29"),
         ("dump", &mended),
         ("format", "more"),
         ("run", "0 steps=12"),
@@ -124,13 +124,18 @@ fn converts_with_something_pending() {
 #[test]
 fn converts_with_and_without_room() {
     let header = format!("{FIRST}fefffffffcffffffffffffff");
+    // the first frame has 31 bytes
+    let others: String = (1..20).map(|id| format!(" place={id}:{}", 47 + 11 * (id - 1))).collect();
     on(
         &format!("{header}{}", settled(20, 20)),
         &[
             ("mount", "0"),
             ("req 0 04000801 0", "more"),
             ("run", "0 steps=251"),
-            ("record", "idle len=512 half=1 end=256 blocks=2 edition=2 pending=0,0,0,0"),
+            (
+                "record",
+                &format!("idle len=512 half=1 end=256 blocks=2 edition=2 pending=0,0,0,0 place=0:16{others}"),
+            ),
             ("log 0", "0 time=2 objects=20 used=256 size=256"),
         ],
     );
@@ -174,7 +179,7 @@ fn a_tight_store() {
         ("log 0", "0 time=1 objects=2 used=232 size=256"),
         ("req 0 04000801 0", "more"),
         ("run", "0 steps=235"),
-        ("record", "idle len=512 half=1 end=240 blocks=2 edition=2 pending=0,0,0,0"),
+        ("record", "idle len=512 half=1 end=240 blocks=2 edition=2 pending=0,0,0,0 place=1:16 place=2:128"),
         ("put 0 1 -", "7"),
         ("delete 1 1", "7"),
         ("commit 0", "0"),
@@ -195,8 +200,8 @@ fn a_tight_store() {
 /// Power is lost after each step of a convert: the store is of edition 1 up to the last byte of the header, then of 2.
 #[test]
 fn a_convert_that_is_cut() {
-    let old = "idle len=512 half=0 end=32 blocks=2 edition=1 pending=0,0,0,0";
-    let new = "idle len=512 half=1 end=29 blocks=2 edition=2 pending=0,0,0,0";
+    let old = "idle len=512 half=0 end=32 blocks=2 edition=1 pending=0,0,0,0 place=5:16";
+    let new = "idle len=512 half=1 end=29 blocks=2 edition=2 pending=0,0,0,0 place=5:16";
     for steps in 1..24 {
         let step = format!("step {steps}");
         let (record, place) = if steps < 23 { (old, "0 at=23 len=2") } else { (new, "0 at=278 len=2") };

@@ -85,7 +85,7 @@ fn masks_of_any_length() {
             ("mount", "more"),
             ("run", "0 steps=1"),
             ("get 0 5", "0 value=4142"),
-            ("record", "idle len=768 half=0 end=25 blocks=2 edition=1 pending=0,0,0,0"),
+            ("record", "idle len=768 half=0 end=25 blocks=2 edition=1 pending=0,0,0,0 place=5:16"),
         ]);
     }
 }
@@ -161,7 +161,7 @@ fn a_put_with_a_transfer() {
         ("run", "0 steps=72"),
         ("commit 0", "more"),
         ("run", "0 steps=6"),
-        ("record", "idle len=512 half=0 end=172 blocks=2 edition=1 pending=0,0,0,0"),
+        ("record", "idle len=512 half=0 end=172 blocks=2 edition=1 pending=0,0,0,0 place=1:94"),
         ("put 3 9 -", "more"),
         ("run", "0 steps=8"),
         ("abort 3", "more"),

@@ -19,7 +19,7 @@ fn saved_byte_for_byte_and_loaded_again() {
         ("commit 2", "more"),
         ("run", "0 steps=6"),
         (&save, "ok"),
-        ("record", "idle len=512 half=0 end=32 blocks=2 edition=1 pending=0,0,0,0"),
+        ("record", "idle len=512 half=0 end=32 blocks=2 edition=1 pending=0,0,0,0 place=5:16"),
         (&load_spaces, "ok"),
         ("record", "unmounted"),
         ("mount", "more"),

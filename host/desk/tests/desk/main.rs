@@ -9,6 +9,7 @@ mod files;
 mod input;
 mod mended;
 mod part;
+mod places;
 mod replay;
 mod show;
 mod words;

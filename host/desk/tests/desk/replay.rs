@@ -25,7 +25,7 @@ fn rows_a_to_h() {
         ("req 2 04000301 0", "more"),
         ("run", "0 steps=6"),
         ("dump", &image(&format!("{header}{put}0600030002fe"))),
-        ("record", "idle len=512 half=0 end=32 blocks=2 edition=1 pending=0,0,0,0"),
+        ("record", "idle len=512 half=0 end=32 blocks=2 edition=1 pending=0,0,0,0 place=5:16"),
         ("read 1 060005010500", "0 at=23 len=2"),
         ("req 1 0500060101 14", "0 reply=0e00010201000000010019000001"),
         ("mount", "0"),
@@ -70,6 +70,8 @@ fn rows_f_and_g() {
 /// As K7 has them: each put gets a commit, and the second would be refused without the first's.
 #[test]
 fn rows_i_to_m() {
+    let old = "idle len=512 half=0 end=250 blocks=2 edition=1 pending=0,0,0,0 place=1:16 place=2:94 place=3:172";
+    let new = "idle len=512 half=1 end=229 blocks=2 edition=1 pending=0,0,0,0 place=1:16 place=2:87 place=3:158";
     let (first, second, third) = (put_of(1, 64), put_of(2, 64), put_of(3, 64));
     let commit = [("req 0 04000301 0", "more"), ("run", "0 steps=6")];
     let formatted = [("new 512", "ok"), ("format", "more"), ("run", "0 steps=12")];
@@ -81,25 +83,24 @@ fn rows_i_to_m() {
     ];
     let [second, third] = [&second, &third].map(|put| [(&put[..], "more"), ("run", "0 steps=72")]);
     let delete = [
-        ("record", "idle len=512 half=0 end=250 blocks=2 edition=1 pending=0,0,0,0"),
+        ("record", old),
         ("req 0 060001010400 0", "7"),
         ("req 0 04000301 0", "0"),
         ("req 0 060001010400 0", "7"),
         ("req 0 060002010100 0", "more"),
     ];
     let before = [&formatted[..], &full, &commit, &second, &commit, &third, &commit, &delete].concat();
-    let deleted =
-        [("run", "0 steps=232"), ("record", "idle len=512 half=1 end=237 blocks=2 edition=1 pending=8,0,0,0")];
+    let pending = new.replace("end=229", "end=237").replace("pending=0", "pending=8");
+    let deleted = [("run", "0 steps=232"), ("record", &pending[..])];
     let put = [
         ("req 0 060001010400 0", "more"),
         ("run", "0 steps=8"),
-        ("record", "idle len=512 half=1 end=251 blocks=2 edition=1 pending=8,0,0,0"),
+        ("record", "idle len=512 half=1 end=251 blocks=2 edition=1 pending=8,0,0,0 place=2:87 place=3:158"),
     ];
     check(&[&before[..], &deleted, &commit, &put].concat());
-    let old = ("step 222", "idle len=512 half=0 end=250 blocks=2 edition=1 pending=0,0,0,0", ["23", "101", "179"]);
-    let new =
-        ("step 223", "idle len=512 half=1 end=229 blocks=2 edition=1 pending=0,0,0,0", ["278", "349", "420"]);
-    for (cut, record, places) in [old, new] {
+    for (cut, record, places) in
+        [("step 222", old, ["23", "101", "179"]), ("step 223", new, ["278", "349", "420"])]
+    {
         let mount = [(cut, "more"), ("mount", "more"), ("run", "0 steps=1"), ("record", record)];
         let [one, two, three] = places.map(|place| format!("0 at={place} len=64"));
         let reads: [(&str, &str); 3] =
@@ -146,7 +147,7 @@ fn records_with_and_without_pending() {
         ("idle 512 0 24", "ok"),
         ("record", "idle len=512 half=0 end=24 blocks=2 edition=1 pending=0,0,0,0"),
         ("req 1 04000301 0", "11"),
-        ("read 1 060005010500", "11"),
+        ("read 1 060005010500", "8"),
         ("idle 512 0 24 pending=0,8,0,0 blocks=2", "ok"),
         ("read 1 060005010500", "8"),
         ("idle 512 0 24 blocks=3 pending=65535,0,00001,65534", "ok"),
@@ -285,7 +286,7 @@ fn pokes_and_forged_records() {
         ("req 0 0500060101 16", "0 reply=0e000102010000000000100000010000"),
         ("idle 512 0 17", "ok"),
         ("req 0 - 0", "11"),
-        ("read 0 060005010100", "11"),
+        ("read 0 060005010100", "8"),
         ("idle 512 0 16", "ok"),
         ("read 0 060005010100", "8"),
         ("poke 511 fe", "ok"),
@@ -303,11 +304,10 @@ fn pokes_and_forged_records() {
 }
 
 #[test]
-fn calls_and_fields_that_are_not_there_yet() {
+fn calls_that_are_not_there_yet() {
     check(&[
-        ("idle 512 0 16 place=5:16", "? line 1: place=5:16 is no field of a record"),
-        ("log-open", "? line 2: no call is named log-open"),
-        ("boot-read", "? line 3: no call is named boot-read"),
+        ("log-open", "? line 1: no call is named log-open"),
+        ("boot-read", "? line 2: no call is named boot-read"),
         ("dump", "image=-"),
         ("record", "unmounted"),
     ]);

@@ -229,12 +229,14 @@ fn what_get_is_refused_with() {
             ("get 0 256", "1 malformed"),
             ("get 0 1", "8 no object"),
             ("idle 512 0 17", "ok"),
-            ("get 0 1", "11 stale"),
-            ("get 0 256", "11 stale"),
-            ("idle 512 0 16", "ok"),
             ("get 0 1", "8 no object"),
-            ("poke 511 00", "ok"),
+            ("idle 512 0 16 place=1:16", "ok"),
             ("get 0 1", "11 stale"),
+            ("get 0 256", "1 malformed"),
+            ("get 0 2", "8 no object"),
+            ("idle 768 0 16", "ok"),
+            ("get 0 2", "11 stale"),
+            ("get 0 256", "1 malformed"),
         ],
     );
 }

@@ -53,9 +53,16 @@ fn mounted(image: &[u8]) -> (Vec<u8>, usize, Idle) {
     (image, steps.len(), idle)
 }
 
-fn idle(edition: Edition, block: u8, end: usize) -> Idle {
-    Idle { length: 2 * S, block, end: end as u16, blocks: 2, edition: edition.number(), pending: [0; 4] }
+/// A record with this object's place, none if it is 0.
+fn idle(edition: Edition, block: u8, end: usize, (id, place): (u8, u16)) -> Idle {
+    let mut places = [0; 256];
+    places[usize::from(id)] = place;
+    Idle { length: 2 * S, block, end: end as u16, blocks: 2, edition: edition.number(), pending: [0; 4], places }
 }
+
+/// The place of object 1, where its settled frame is the block's first.
+const FIRST_FRAME: (u8, u16) = (1, 16);
+const NO_PLACE: (u8, u16) = (0, 0);
 
 /// One object settled, one change pending of each of two hosts.
 fn before(edition: Edition) -> Vec<u8> {
@@ -85,20 +92,20 @@ fn rows_f_and_g() {
     assert_eq!(whole(&mut image, &mut record), (Answer::DONE, 10));
 
     let (left, steps, after) = mounted(&image);
-    assert_eq!((steps, after), (5, idle(First, 0, 31)));
+    assert_eq!((steps, after), (5, idle(First, 0, 31, NO_PLACE)));
     assert_eq!(left[26..32], [5, 0, 7, 0, 0xFE, 0xFF]);
     assert_eq!(block::replay(&journal(&left)).objects().count(), 0);
 
     Model.request(&image, 2, &mut record, 2, &message::commit(), &mut []);
     assert_eq!(Model.run(&mut image, 2, &mut record, 5), (Answer::MORE, 5));
     let (left, steps, after) = mounted(&image);
-    assert_eq!((steps, after), (7, idle(First, 0, 37)));
+    assert_eq!((steps, after), (7, idle(First, 0, 37, NO_PLACE)));
     assert_eq!(left[26..38], [6, 0, 0, 0, 2, 0xFE, 5, 0, 7, 0, 0xFE, 0xFF]);
     assert_eq!(block::replay(&journal(&left)).objects().count(), 0);
 
     assert_eq!(whole(&mut image, &mut record), (Answer::DONE, 1));
     let (left, steps, after) = mounted(&image);
-    assert_eq!((left, steps, after), (image, 0, idle(First, 0, 32)));
+    assert_eq!((left, steps, after), (image, 0, idle(First, 0, 32, (5, 16))));
 }
 
 /// The steps by place: length's high byte, kind's low byte, its high byte, the finish byte, then the reset.
@@ -120,7 +127,7 @@ fn torn_after_each_byte() {
                 let expected: Vec<Step> =
                     places.into_iter().map(|(at, byte)| Step::Program { at, byte }).collect();
                 assert_eq!(steps, expected, "{cut} of {frame:?}");
-                assert_eq!(after, idle(edition, 0, start + frame.len() + reset.len()));
+                assert_eq!(after, idle(edition, 0, start + frame.len() + reset.len(), FIRST_FRAME));
             }
         }
     }
@@ -180,10 +187,10 @@ fn a_reset_that_does_not_fit() {
                 let used = HEADER + settled.len();
                 let (_, steps, after) = mounted(&at(3));
                 if less == 0 {
-                    assert_eq!(after, idle(edition, 0, S));
+                    assert_eq!(after, idle(edition, 0, S, FIRST_FRAME));
                     assert_eq!(plan(&at(u32::MAX)), plan(&at(3)));
                 } else {
-                    assert_eq!((steps, after), (used - 5, idle(edition, 1, used)));
+                    assert_eq!((steps, after), (used - 5, idle(edition, 1, used, FIRST_FRAME)));
                     assert_eq!(Model.mount(&at(u32::MAX), 2), (Answer::WORN, Record::Unmounted));
                 }
             }
@@ -199,7 +206,7 @@ fn a_closed_frame_to_the_end() {
         let (abort, torn) = (frame::abort(edition, Host(1)), frame::put(edition, Host(1), Id(1), &vec![0; rest]));
         let (image, steps, after) =
             mounted(&image(edition, u32::MAX, &[&abort, &torn[..S - HEADER - abort.len() - 1]]));
-        assert_eq!((steps, after), (2, idle(edition, 0, S)));
+        assert_eq!((steps, after), (2, idle(edition, 0, S, NO_PLACE)));
         assert_eq!(journal(&image).end, S);
     }
 }
@@ -224,7 +231,8 @@ fn what_a_transfer_leaves_behind() {
         let pending = frame::put(edition, Host(1), Id(3), &[0; 60]);
         let mut image = image(edition, 3, &[&before, &pending]);
         let end = HEADER + before.len() + pending.len();
-        let mut record = Record::Idle(Idle { pending: [0, pending.len() as u16, 0, 0], ..idle(edition, 0, end) });
+        let pending_bytes = [0, pending.len() as u16, 0, 0];
+        let mut record = Record::Idle(Idle { pending: pending_bytes, ..idle(edition, 0, end, FIRST_FRAME) });
         let put = frame::put(edition, Host(1), Id(4), &[5; 40]);
         assert!(end + put.len() > S);
         let answer = Model.request(&image, 2, &mut record, 1, &message::put(4, &[5; 40]), &mut []);

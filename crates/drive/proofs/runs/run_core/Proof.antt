@@ -20,7 +20,7 @@ returns-2 c =
     (args′ .n) (ap answerIn (c .before .enum-told2 .given .1)))
 
 run-busy-requires : tie.Need-run-busy-requires
-run-busy-requires c κs = ap answerIn (c .before .before .enum-told3 .given .1)
+run-busy-requires c κs = ap answerIn (c .before .before .before .enum-told3 .given .1)
 
 returns-3 : tie.Need-returns-3
 returns-3 c = c .before .before .run-busy .ensures

@@ -3,9 +3,7 @@ use mathlib.Core.Path.{sym, _∙_}
 use borrow.Author.Tests.{not-true, not-false}
 use Rattle.flash.specs.Flash.{sizeIn, within}
 use Rattle.flash.proofs.Cases.{and-no-left}
-use Rattle.board.specs.Record.{idle}
-use Rattle.board.specs.Step.{sameShape}
-use Rattle.job.specs.Code.{flashStep}
+use Rattle.job.specs.Code.{flashStep, fits}
 use borrow.Author.Needs.{needs}
 use Rattle.job.proofs.actions.within_image.Statement.{statement}
 use Rattle.job.proofs.actions.within_image.Tie as tie
@@ -13,7 +11,7 @@ use Rattle.job.proofs.actions.within_image.Tie as tie
 returns : tie.Need-returns
 returns c =
     let args′ = c .before .before .before .args in
-    sym (and-no-left (sameShape (args′ .blocks) (args′ .len) (idle (args′ .rest))) (within (args′ .blocks) (sizeIn (args′ .blocks) (args′ .len))
+    sym (and-no-left (fits (args′ .blocks) (args′ .len) (args′ .rest)) (within (args′ .blocks) (sizeIn (args′ .blocks) (args′ .len))
     (flashStep (args′ .a))) (sym (c .before .same-shape .ensures) ∙ not-true _ (c .if1 .taken)))
 
 returns-2 : tie.Need-returns-2

@@ -25,7 +25,7 @@ returns c =
     let args′ = c .before .before .before .before .before .args in
     let n = args′ .n in
     λ N i p u f. rw (c .next-step .ensures) (on-leaves p u f Append (n .job .size) n
-    (idle (ending (n .rest) (n .rest .end + n .job .size)))
+    (idle p (ending (n .rest) (n .rest .end + n .job .size)))
     (sym (c .before .before .has-next .ensures) ∙ c .before .if1 .taken))
 
 returns-2 : tie.Need-returns-2
@@ -35,7 +35,7 @@ returns-2 c =
     let args′ = c .before .before .before .before .before .before .before .before .args in
     let n = args′ .n in
     let z = ending (n .rest) (n .rest .end + n .job .size) in
-    λ N i p u f. rw (c .over .ensures) (off-leaves p u f Append (n .job .size) (assemble n p u f) (over z) (idle z)
+    λ N i p u f. rw (c .over .ensures) (off-leaves p u f Append (n .job .size) (assemble n p u f) (over z) (idle p z)
     (sym (has-next′ .ensures) ∙ c .before .before .before .before .if1 .left) (over-leaves p u f z))
 
 pub after-append-spec : {M : Type 1} → statement M

@@ -5,11 +5,10 @@ use Rattle.job.proofs.records.give_back.Tie as tie
 
 returns : tie.Need-returns
 returns c =
-    let if1′ = c .before .before .before .before .if1 in
+    let if1′ = c .before .before .before .if1 in
     rw (
       if1′ .taken,
       c .assemble .ensures,
-      c .before .before .before .no-places .ensures,
       c .before .before .no-frame .ensures,
       c .before .no-frame2 .ensures,
     )
@@ -19,4 +18,4 @@ returns-2 c = rw (c .before .if1 .left, c .assemble2 .ensures)
 
 pub give-back-spec : {M : Type 1} → statement M
 give-back-spec = tie.close (tie.spec
-    (λ c κs. search needs) (λ c κs. search needs) (λ c κs. search needs) (λ c κs. search needs) returns (λ c κs. search needs) returns-2)
+    (λ c κs. search needs) (λ c κs. search needs) (λ c κs. search needs) returns (λ c κs. search needs) returns-2)

@@ -16,32 +16,32 @@ use Rattle.job.proofs.steps.enter_copy.Tie as tie
 
 load-requires : tie.Need-load-requires
 load-requires c κs =
-    let next-load′ = c .before .before .before .before .next-load in
-    let block-of′ = c .before .before .before .before .before .before .block-of in
-    subst (Inside (now (block-of′ .result))) (c .before .before .fetch .given .1) (fetches _ _ _ _ _ _ _ _ (next-load′ .ensures) .1)
+    let next-load′ = c .before .before .before .before .before .next-load in
+    let block-of′ = c .before .before .before .before .before .before .before .before .block-of in
+    subst (Inside (now (block-of′ .result))) (c .before .before .before .fetch .given .1) (fetches _ _ _ _ _ _ _ _ (next-load′ .ensures) .1)
 
 returns : tie.Need-returns
 returns c =
-    let fetch′ = c .before .before .before .fetch in
-    let next-load′ = c .before .before .before .before .before .next-load in
-    let edition-by′ = c .before .before .before .before .before .before .edition-by in
-    let block-of′ = c .before .before .before .before .before .before .before .block-of in
-    let size-of′ = c .before .before .before .before .before .before .before .before .size-of in
-    let args′ = c .before .before .before .before .before .before .before .before .before .before .before .before .before .before .args in
-    λ f. subst (LeadsTo (now (args′ .places)) _ f (c .load .result))
+    let fetch′ = c .before .before .before .before .fetch in
+    let next-load′ = c .before .before .before .before .before .before .next-load in
+    let edition-by′ = c .before .before .before .before .before .before .before .before .edition-by in
+    let block-of′ = c .before .before .before .before .before .before .before .before .before .block-of in
+    let size-of′ = c .before .before .before .before .before .before .before .before .before .before .size-of in
+    let args′ = c .before .before .before .before .before .before .before .before .before .before .before .before .before .before .before .before .args in
+    λ f a. subst (LeadsTo _ _ f (c .load .result))
     (frame-found (args′ .blocks) (now (args′ .image)) (assemble (args′ .n) (now (args′ .places)) (now (args′ .unit)) f) (now (block-of′ .result))
     (block-of′ .ensures ∙ ap (λ (s : ℕ). block s (args′ .n .rest .block) (now (args′ .image))) (size-of′ .ensures))
     (edition-by′ .result) (edition-by′ .ensures) (next-load′ .result) (fetches _ _ _ _ _ _ _ _ (next-load′ .ensures) .0) (fetch′ .given .0 .0)
-    (fetch′ .given .1)) (c .load .ensures (now (args′ .places)) f)
+    (fetch′ .given .1)) (c .load .ensures f a)
 
 returns-2 : tie.Need-returns-2
 returns-2 c =
     let next-load′ = c .before .before .before .next-load in
-    let edition-by′ = c .before .before .before .before .edition-by in
-    let block-of′ = c .before .before .before .before .before .block-of in
-    let size-of′ = c .before .before .before .before .before .before .size-of in
-    let args′ = c .before .before .before .before .before .before .before .before .before .before .before .before .args in
-    λ f. rw (c .enter .ensures) (subst (LeadsTo (now (args′ .places)) (now (args′ .unit)) f
+    let edition-by′ = c .before .before .before .before .before .edition-by in
+    let block-of′ = c .before .before .before .before .before .before .block-of in
+    let size-of′ = c .before .before .before .before .before .before .before .size-of in
+    let args′ = c .before .before .before .before .before .before .before .before .before .before .before .before .before .args in
+    λ f a. rw (c .enter .ensures) (subst (LeadsTo (now (args′ .places)) (now (args′ .unit)) f
     (going Seal (first (args′ .n .cursor)) (args′ .n)))
     (none-found (args′ .blocks) (now (args′ .image)) (assemble (args′ .n) (now (args′ .places)) (now (args′ .unit)) f) (now (block-of′ .result))
     (block-of′ .ensures ∙ ap (λ (s : ℕ). block s (args′ .n .rest .block) (now (args′ .image))) (size-of′ .ensures))

@@ -8,11 +8,16 @@ use Rattle.queue.proofs.requests.request.Tie as tie
 
 returns : tie.Need-returns
 returns c =
-    let c6 = c .before .before .before .before .before .before in
-    let args′ = c6 .before .before .before .before .before .before .before .args in
+    let request-core′ = c .before .before .before .request-core in
+    let args′ = c .before .before .before .before .before .before .before .before .before .before .before .before .before .before .before .args in
     by-value (c .kept-or .result)
     (requestOn (asking (args′ .blocks) (now (args′ .image)) (args′ .board) (args′ .host) (now (args′ .message)) (now (args′ .reply))))
-    (c .kept-or .ensures) (c .before .before .before .request-core .ensures .asked (args′ .board))
+    (c .kept-or .ensures) (request-core′ .ensures (args′ .board))
 
 pub request-spec : {M : Type 1} → statement M
-request-spec = tie.close (tie.spec (λ c κs. search needs) (λ c κs. search needs) (λ c κs. search needs) (λ c κs. search needs) (λ c. search needs) returns)
+request-spec = tie.close (tie.spec
+    (λ c κs. search needs)
+    (λ c κs. search needs)
+    (λ c κs. search needs)
+    (λ c κs. search needs)
+    (λ c. search needs) returns)

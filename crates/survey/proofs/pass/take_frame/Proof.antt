@@ -1,14 +1,9 @@
 -- One frame more, by its head.
-use mathlib.Core.Path.{sym, ap, ap₂, _∙_}
+use mathlib.Core.Path.{ap, ap₂, _∙_}
 use native.Mathlib.Numerals.{add-one}
 use native.Mathlib.Omega.{arith}
-use Prim.Native.Nat.{ℕ}
-use denote.Ref.{now}
-use lib.ListN.{take}
-use lib.ListN.{length-take}
-use lib.Seq.{length-take-le}
 use Rattle.frame.specs.Code.{headLen}
-use Rattle.survey.specs.Pass.{recommit, grown, ended, endedAll, passed, tookFrame, tookPlaces}
+use Rattle.survey.specs.Pass.{grown, ended, endedAll, passed, tookFrame, tookPlaces}
 use borrow.Author.Needs.{needs}
 use Rattle.survey.proofs.pass.take_frame.Statement.{statement}
 use Rattle.survey.proofs.pass.take_frame.Tie as tie
@@ -22,27 +17,6 @@ grow-requires-2 : tie.Need-grow-requires-2
 grow-requires-2 c κs =
     let pre′ = c .before .before .before .before .before .pre in
     (omega (arith, c .before .before .before .frame-len .ensures, pre′), pre′ .2 _)
-
-slice-aggregate-commit-own : tie.Need-slice-aggregate-commit-own
-slice-aggregate-commit-own c =
-    let args′ = c .before .before .before .before .before .before .before .before .args in
-    let pre′ = c .before .before .before .before .before .before .before .before .pre in
-    sym (length-take-le (args′ .p .end) (now (args′ .block)) (omega (arith, pre′)))
-
-commit-own-requires : tie.Need-commit-own-requires
-commit-own-requires c κs =
-    let args′ = c .before .before .before .before .before .before .before .before .before .args in
-    let pre′ = c .before .before .before .before .before .before .before .before .before .pre in
-    omega (arith, length-take (args′ .p .end) (now (args′ .block)), pre′)
-
-end-list-requires : tie.Need-end-list-requires
-end-list-requires c κs =
-    let frame-len′ = c .before .before .before .before .before .before .before .before .frame-len in
-    let pre′ = c .before .before .before .before .before .before .before .before .before .before .pre in
-    omega (arith, frame-len′ .ensures, pre′)
-
-end-list-requires-2 : tie.Need-end-list-requires-2
-end-list-requires-2 c κs = omega (arith, c .before .before .before .frame-len .ensures, c .before .before .before .before .before .pre)
 
 returns : tie.Need-returns
 unfolding tookFrame tookPlaces
@@ -68,16 +42,10 @@ returns-2 c =
 
 returns-3 : tie.Need-returns-3
 unfolding tookFrame tookPlaces
-returns-3 c =
-    let of-host′ = c .before .before .before .before .of-host in
-    let head3′ = c .before .before .before .before .before .before .before .head3 in
-    let frame-len′ = c .before .before .before .before .before .before .before .before .before .frame-len in
-    let args′ = c .before .before .before .before .before .before .before .before .before .before .before .args in (
-      rw (head3′ .given .1) (c .end-list .ensures ∙ ap (ended (args′ .p) _) (frame-len′ .ensures ∙ ap (headLen (args′ .edition)) (head3′ .given .1))),
-      rw (head3′ .given .1)
-          (c .before .commit-own .ensures ∙ ap (λ (m : ℕ). recommit (args′ .edition) (take (args′ .p .end) (now (args′ .block))) (head3′ .given .0 .0) m
-          (now (args′ .places))) (of-host′ .ensures)),
-    )
+returns-3 c = (
+  rw (c .before .before .before .before .before .head3 .given .1) (c .end-list .ensures ∙ ap (ended (c .before .before .before .before .before .before .before .before .before .args .p) _) (c .before .before .before .before .before .before .before .frame-len .ensures ∙ ap (headLen (c .before .before .before .before .before .before .before .before .before .args .edition)) (c .before .before .before .before .before .head3 .given .1))),
+  rw (c .before .before .before .before .before .head3 .given .1) (c .before .commit-at .ensures),
+)
 
 returns-4 : tie.Need-returns-4
 unfolding tookFrame tookPlaces
@@ -122,7 +90,18 @@ returns-7 c =
 
 pub take-frame-spec : {M : Type 1} → statement M
 take-frame-spec = tie.close (tie.spec
-    (λ c κs. search needs) (λ c. search needs) (λ c. search needs) grow-requires (λ c. search needs) grow-requires-2 (λ c. search needs) (λ c κs. search needs)
-    (λ c. search needs) (λ c. search needs) slice-aggregate-commit-own commit-own-requires end-list-requires (λ c. search needs) end-list-requires-2
-    (λ c. search needs) (λ c κs. search needs) (λ c. search needs) (λ c. search needs) (λ c κs. search needs) (λ c. search needs) (λ c κs. search needs)
+    (λ c κs. search needs)
+    (λ c. search needs)
+    (λ c. search needs) grow-requires
+    (λ c. search needs) grow-requires-2
+    (λ c. search needs)
+    (λ c κs. search needs)
+    (λ c κs. search needs) (λ c. search needs) (λ c κs. search needs)
+    (λ c. search needs)
+    (λ c κs. search needs)
+    (λ c. search needs)
+    (λ c. search needs)
+    (λ c κs. search needs)
+    (λ c. search needs)
+    (λ c κs. search needs)
     (λ c. search needs) (λ c κs. search needs) returns returns-2 returns-3 returns-4 returns-5 returns-6 returns-7)
