@@ -5,7 +5,7 @@ use wire::Refusal;
 
 // The stages of a job. After Wipe comes a block made, Open to Drop, or a torn frame closed, Close; Append is the last. A stage with nothing to do
 // is passed over.
-#[derive(Drop)]
+#[derive(Clone, Copy)]
 pub enum Stage {
     Wipe,
     Open,
@@ -16,7 +16,7 @@ pub enum Stage {
     Close,
 }
 
-#[derive(Drop)]
+#[derive(Clone, Copy)]
 pub enum Phase {
     Unmounted,
     Idle,
@@ -24,7 +24,7 @@ pub enum Phase {
 }
 
 // What a job is to do; it stays as it is while the job runs.
-#[derive(Drop)]
+#[derive(Clone, Copy)]
 pub struct Job {
     // blocks to erase first, and how many of them
     pub wipe: [u8; MAX_BLOCKS],
@@ -46,7 +46,7 @@ pub struct Job {
 }
 
 // How far a job has come.
-#[derive(Drop)]
+#[derive(Clone, Copy)]
 pub struct Cursor {
     // the step of the stage, but for Copy
     pub index: u8,
@@ -61,7 +61,7 @@ pub struct Cursor {
 }
 
 // Where a record stands, in a job or not: a further field of a record in no job goes here.
-#[derive(Drop)]
+#[derive(Clone, Copy)]
 pub struct Rest {
     // how many blocks the image has, and its length less one
     pub blocks: u8,
@@ -76,7 +76,7 @@ pub struct Rest {
 }
 
 // The board record.
-#[derive(Drop)]
+#[derive(Clone, Copy)]
 pub struct Record {
     pub phase: Phase,
     pub rest: Rest,
@@ -91,7 +91,7 @@ pub struct Record {
 
 // What a job's next flash step is: a byte to program at an offset of the image, or from an offset on so many bytes to erase; none;
 // or the refusal that a step call would get.
-#[derive(Drop)]
+#[derive(Clone, Copy)]
 pub enum Next {
     Program(usize, u8),
     Erase(usize, usize),

@@ -11,14 +11,14 @@ use frame::BUFFER_LEN;
 use job::records::Numbers;
 
 // The numbers after some steps, and how many there were.
-#[derive(Drop)]
+#[derive(Clone, Copy)]
 pub struct Stride {
     pub next: Numbers,
     pub steps: usize,
 }
 
 // Where a frame's next bytes go, by block and offset; how many are done, of how many.
-#[derive(Drop)]
+#[derive(Clone, Copy)]
 pub struct Lane {
     pub block: u8,
     pub at: usize,

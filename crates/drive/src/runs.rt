@@ -14,7 +14,7 @@ use job::{Outcome, records};
 use wire::Answer;
 
 // How many steps were made, and where they leave the job.
-#[derive(Drop)]
+#[derive(Clone, Copy)]
 pub struct Ran {
     pub steps: usize,
     pub stepped: Stepped,
@@ -88,7 +88,7 @@ pub fn run_core(
 }
 
 // What a run call gives back: how many steps were made, and what the last step call gave.
-#[derive(Drop)]
+#[derive(Clone, Copy)]
 pub struct Driven {
     pub steps: usize,
     pub last: Outcome,

@@ -15,7 +15,7 @@ const ERASE: u8 = 253;
 // What a flash step leaves in a byte that it erases.
 const ERASED: u8 = 255;
 
-#[derive(Drop)]
+#[derive(Clone, Copy)]
 pub struct Telling {
     pub answer: u8,
     pub at: usize,

@@ -10,14 +10,14 @@ use frame::{Edition, FrameRead, Head, ObjectId, PUT_VALUE_AT, SETTLED_VALUE_AT};
 pub use numbers::{of_host, set_place, with_host};
 
 // Where in a block a value starts, and how many bytes it has.
-#[derive(Drop)]
+#[derive(Clone, Copy)]
 pub enum Found {
     At(usize, u8),
     Nothing,
 }
 
 // A frame to copy: its head, where its value starts in the block, and the cursor after it.
-#[derive(Drop)]
+#[derive(Clone, Copy)]
 pub struct Fetch {
     pub head: Head,
     pub value: usize,
@@ -25,7 +25,7 @@ pub struct Fetch {
     pub source: u16,
 }
 
-#[derive(Drop)]
+#[derive(Clone, Copy)]
 pub enum Fetched {
     Frame(Fetch),
     Nothing,

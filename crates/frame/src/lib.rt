@@ -8,15 +8,15 @@ mod bytes;
 pub use bytes::encode_frame;
 
 // A host's number: the port that a message came in by.
-#[derive(Drop)]
+#[derive(Clone, Copy)]
 pub struct Host(pub u8);
 
 // An object's number. Neither number may ever stand in for the other.
-#[derive(Drop)]
+#[derive(Clone, Copy)]
 pub struct ObjectId(pub u16);
 
 // The fields of a frame and of a block's header, by which a fault is told.
-#[derive(Drop)]
+#[derive(Clone, Copy)]
 pub enum Field {
     Length,
     Kind,
@@ -30,14 +30,14 @@ pub enum Field {
 }
 
 // The editions of the format: in the second each frame has a CRC-32.
-#[derive(Drop)]
+#[derive(Clone, Copy)]
 pub enum Edition {
     First,
     Second,
 }
 
 // The first bad field, and its offset in the block.
-#[derive(Drop)]
+#[derive(Clone, Copy)]
 pub struct Fault {
     pub field: Field,
     pub place: usize,
@@ -79,7 +79,7 @@ pub const RESET_LEN: u8 = 5;
 pub const BUFFER_LEN: usize = PUT_LEN as usize + 4 + VALUE_MAX;
 
 // A frame without its value's bytes: how many there are.
-#[derive(Drop)]
+#[derive(Clone, Copy)]
 pub enum Head {
     Put(Host, ObjectId, u8),
     Delete(Host, ObjectId),
@@ -91,7 +91,7 @@ pub enum Head {
 }
 
 // What stands at a place: of a torn frame its length, of wrong bytes the first bad field.
-#[derive(Drop)]
+#[derive(Clone, Copy)]
 pub enum FrameRead {
     Blank,
     Whole(Head),

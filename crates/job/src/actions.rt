@@ -12,7 +12,7 @@ use frame::{Edition, FINISH};
 use journal::{IN_TRANSFER, STATE_AT, TIME_AT, VALID_DATA};
 
 // A flash step: a byte programmed at an offset of a block, or a block erased.
-#[derive(Drop)]
+#[derive(Clone, Copy)]
 pub enum Action {
     Program(u8, usize, u8),
     Erase(u8),

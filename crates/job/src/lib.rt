@@ -15,7 +15,7 @@ pub use steps::{enter_copy, in_hand, load_due, made_of, step, step_core, try_ste
 use wire::Answer;
 
 // What a call gives back: its answer and the board record.
-#[derive(Drop)]
+#[derive(Clone, Copy)]
 pub struct Outcome {
     pub answer: Answer,
     pub board: Record,

@@ -10,7 +10,7 @@ use board::{Cursor, Phase, Stage};
 use wire::Answer;
 
 // Where a step leaves a job. No array is read: where `loads` says so, enter_copy goes on from here.
-#[derive(Drop)]
+#[derive(Clone, Copy)]
 pub struct Moved {
     pub stepped: Stepped,
     pub loads: bool,

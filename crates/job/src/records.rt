@@ -19,7 +19,7 @@ pub const START: u16 = HEADER_LEN as u16;
 pub const LAST_TIME: u32 = 4294967295;
 
 // A record without its arrays.
-#[derive(Drop)]
+#[derive(Clone, Copy)]
 pub struct Numbers {
     pub phase: Phase,
     pub rest: Rest,
@@ -28,7 +28,7 @@ pub struct Numbers {
 }
 
 // Where a call leaves a job. A job that ended leaves no frames.
-#[derive(Drop)]
+#[derive(Clone, Copy)]
 pub struct Stepped {
     pub answer: Answer,
     pub next: Numbers,

@@ -5,7 +5,7 @@ ghost use Rattle.looks.specs.Seen.{erases_of, noted, others_in};
 
 use flash::MAX_BLOCKS;
 
-#[derive(Drop)]
+#[derive(Clone, Copy)]
 pub struct Erases {
     pub wipe: [u8; MAX_BLOCKS],
     pub count: u8,

@@ -12,7 +12,7 @@ use survey::{BlockKind, Survey};
 use wire::Refusal;
 
 // The valid block with the largest time, the lowest of several; all zeros if none is valid.
-#[derive(Drop)]
+#[derive(Clone, Copy)]
 pub struct Newest {
     pub valid: bool,
     pub number: u8,
@@ -29,13 +29,13 @@ pub struct Newest {
 }
 
 // Two valid blocks have one time, and the lowest block of which that is so.
-#[derive(Drop)]
+#[derive(Clone, Copy)]
 pub struct Tie {
     pub equal: bool,
     pub lowest: u8,
 }
 
-#[derive(Drop)]
+#[derive(Clone, Copy)]
 pub struct Seen {
     // each block's creation time, 0 if it isn't valid, and whether it is blank
     pub times: [u32; MAX_BLOCKS],

@@ -17,14 +17,14 @@ const COPY: u8 = 4;
 const APPEND: u8 = 7;
 
 // A byte of a frame to program: its stage, block, offset there and itself.
-#[derive(Drop)]
+#[derive(Clone, Copy)]
 enum Aim {
     Nowhere,
     At(Stage, u8, usize, u8),
 }
 
 // The same by its place in the image.
-#[derive(Drop)]
+#[derive(Clone, Copy)]
 pub enum Found {
     Nothing,
     Byte(Stage, usize, u8),

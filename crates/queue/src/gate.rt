@@ -8,7 +8,7 @@ use looks::image;
 use wire::Refusal;
 
 // Whether a request is to be heard, or why not.
-#[derive(Drop)]
+#[derive(Clone, Copy)]
 pub enum Gate {
     Open,
     Shut(Refusal),

@@ -15,14 +15,14 @@ use frame::{Host, ObjectId};
 use wire::{Answer, Parsed, Refusal};
 
 // A stretch of the image.
-#[derive(Drop)]
+#[derive(Clone, Copy)]
 pub struct Stretch {
     pub at: usize,
     pub size: usize,
 }
 
 // What a read is answered, and the stretch that it hands back.
-#[derive(Drop)]
+#[derive(Clone, Copy)]
 pub struct Located {
     pub answer: Answer,
     pub at: usize,

@@ -42,7 +42,7 @@ const MAX_PUT: usize = PUT_LEN as usize + VALUE_MAX;
 const MAX_SETTLED: usize = SETTLED_LEN as usize + VALUE_MAX;
 
 // The first byte of a frame that does not fit: its offset, its field, and where that starts.
-#[derive(Drop)]
+#[derive(Clone, Copy)]
 enum Misfit {
     None,
     At(usize, Field, usize),

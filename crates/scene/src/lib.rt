@@ -11,7 +11,7 @@ use job::{Outcome, records};
 pub const ROOM: usize = 4096;
 
 // What a call and the steps after it came to: the last answer, 255 for more, and how many steps there were.
-#[derive(Drop)]
+#[derive(Clone, Copy)]
 pub struct Ran {
     pub board: Record,
     pub answer: u8,
@@ -19,7 +19,7 @@ pub struct Ran {
 }
 
 // An image, the first bytes of a buffer; the number of blocks that calls are told; the record, and what the last call came to.
-#[derive(Drop)]
+#[derive(Clone, Copy)]
 pub struct Bench {
     pub image: [u8; ROOM],
     pub size: usize,

@@ -11,13 +11,13 @@ use job::records::Stepped;
 use looks::Newest;
 
 // The bytes that close a torn frame, by their offsets in the block, and how many of them.
-#[derive(Drop)]
+#[derive(Clone, Copy)]
 pub struct Closes {
     pub at: [u16; 4],
     pub count: u8,
 }
 
-#[derive(Drop)]
+#[derive(Clone, Copy)]
 pub struct Mend {
     // a block is made in place of all else
     pub moves: bool,

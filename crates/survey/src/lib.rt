@@ -7,14 +7,14 @@ pub use block::{commit, survey_block};
 use frame::{Edition, Fault};
 
 // What is wrong with a header, if anything is.
-#[derive(Drop)]
+#[derive(Clone, Copy)]
 pub enum HeaderCheck {
     Sound,
     Bad(Fault),
 }
 
 // What the frames of a block come to, as far as they were read.
-#[derive(Drop)]
+#[derive(Clone, Copy)]
 pub struct Progress {
     // where the next frame stands, and the least id that it may have if it is settled
     pub end: u16,
@@ -25,20 +25,20 @@ pub struct Progress {
 }
 
 // What follows the whole frames of a block: nothing, a torn frame of a length, or something else.
-#[derive(Drop)]
+#[derive(Clone, Copy)]
 pub enum Tail {
     Clean,
     Cut(usize),
     Bad(Fault),
 }
 
-#[derive(Drop)]
+#[derive(Clone, Copy)]
 pub struct Walk {
     pub progress: Progress,
     pub tail: Tail,
 }
 
-#[derive(Drop)]
+#[derive(Clone, Copy)]
 pub enum BlockKind {
     Blank,
     InProgress,
@@ -47,14 +47,14 @@ pub enum BlockKind {
 }
 
 // The settled objects of a block: how many, and U.
-#[derive(Drop)]
+#[derive(Clone, Copy)]
 pub struct Tally {
     pub count: u16,
     pub used: u16,
 }
 
 // All that there is to know of a block; of one that isn't valid, its kind.
-#[derive(Drop)]
+#[derive(Clone, Copy)]
 pub struct Survey {
     pub kind: BlockKind,
     // the format's edition, of a block that isn't valid the first

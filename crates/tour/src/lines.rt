@@ -2,7 +2,7 @@
 ghost use Rattle.std.specs.Prelude.{◌≤◌, ◌≡◌, length};
 
 // A line's last three numbers, d the last of them, and how many there are: NONE where one can't be read. Inside, a digit goes on.
-#[derive(Drop)]
+#[derive(Clone, Copy)]
 pub struct Args {
     pub b: usize,
     pub c: usize,
@@ -14,7 +14,7 @@ pub struct Args {
 const NONE: usize = 9;
 
 // A message of at most 16 bytes, and how many hex digits it has: UNREAD where it can't be read.
-#[derive(Drop)]
+#[derive(Clone, Copy)]
 pub struct Bytes {
     pub bytes: [u8; 16],
     pub digits: usize,

@@ -12,7 +12,7 @@ mod lines;
 mod shown;
 
 // The store as it stands, and those that the script goes back to.
-#[derive(Drop)]
+#[derive(Clone, Copy)]
 struct Tour {
     now: Bench,
     kept: [Bench; 4],

@@ -7,13 +7,13 @@ ghost use Rattle.wire.specs.Code.{overlay, page_into, value_place};
 use frame::{BODY_AT, Fault, Field, ID_MAX, KIND_AT, ObjectId, VALUE_MAX};
 
 // What a log request asks for.
-#[derive(Drop)]
+#[derive(Clone, Copy)]
 pub enum Page {
     Summary,
 }
 
 // What a host asks for. A put's value is the message past its id.
-#[derive(Drop)]
+#[derive(Clone, Copy)]
 pub enum Request {
     Put(ObjectId),
     Delete(ObjectId),
@@ -25,14 +25,14 @@ pub enum Request {
 }
 
 // What a message is.
-#[derive(Drop)]
+#[derive(Clone, Copy)]
 pub enum Parsed {
     Is(Request),
     Malformed,
 }
 
 // Why a call is refused. A mount names the half that it can't take, and in it the first bad field.
-#[derive(Drop)]
+#[derive(Clone, Copy)]
 pub enum Refusal {
     Malformed,
     NoStore,
@@ -50,7 +50,7 @@ pub enum Refusal {
 }
 
 // What a call answers.
-#[derive(Drop)]
+#[derive(Clone, Copy)]
 pub enum Answer {
     Done,
     More,
@@ -58,7 +58,7 @@ pub enum Answer {
 }
 
 // What a refused mount names: a half, the number of a field (0 for none) and its offset in the half.
-#[derive(Drop)]
+#[derive(Clone, Copy)]
 pub struct Spot {
     pub half: u8,
     pub field: u8,

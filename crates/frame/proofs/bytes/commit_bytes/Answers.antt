@@ -1,0 +1,20 @@
+-- A commit's bytes.
+use mathlib.Core.Path.{◌∙◌}
+use Prim.Native.Nat.{◌+◌}
+use native.Mathlib.Omega.{arith}
+use Rattle.frame.specs.Frame.{commit}
+use Rattle.frame.proofs.Encode.{check-short}
+use Rattle.frame.proofs.Stores.{written}
+use Rattle.frame.proofs.bytes.commit_bytes.Goals as goal
+
+pub overflow_add-front : goal.overflow_add-front
+overflow_add-front c = omega (arith, c.check_len.ensures, check-short c.args.edition)
+
+pub assemble-requires : goal.assemble-requires
+assemble-requires c = omega (arith, check-short c.args.edition)
+
+pub returns : goal.returns
+returns c =
+    c.assemble.ensures
+    ∙ written c.args.edition (commit c.args.h) (6 + c.check_len.result)
+    (omega (arith, c.check_len.ensures)) (omega (arith, c.check_len.ensures, check-short c.args.edition))
