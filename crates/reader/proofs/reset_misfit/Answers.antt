@@ -1,0 +1,12 @@
+-- The tests of a reset.
+use mathlib.Core.Path.{sym}
+use native.Mathlib.Omega.{arith}
+use Rattle.flash.proofs.Blank.{bytes_of}
+use Rattle.reader.proofs.Misfits.{reset_is}
+use Rattle.reader.proofs.reset_misfit.Goals as goal
+
+pub returns : goal.returns
+returns c =
+    rw (c.first.ensures, c.front_misfit-front.ensures, c.seal_misfit-seal.ensures)
+    (sym (reset_is c.args.edition c.args.n c.args.t.now c.requires.0 c.requires.2
+    (bytes_of c.args.t.now (λ i. omega (arith, c.shared_slice_known-1.given i))) c.requires.1))
