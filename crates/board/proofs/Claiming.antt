@@ -265,14 +265,14 @@ run_holds a v d [] h = tt
 run_holds {N} {img = img} {r = r} a v d (call c ∷ es) (by, h) =
     let y = call_keeps v c by in
     let e = call_ends calls img v.bytes a r d c by in
-    let a' : Call = begun_by a c (exec N img r c).answer in (y.0, agrees a' y.1 e, run_holds a' y.1 e es h)
+    let a' : Call = begun_by a c (exec N img r c).answer in (y.0, agrees a' y.1 e, run_holds {img = (exec N img r c).image} {r = (exec N img r c).board} a' y.1 e es h)
 run_holds a v d (cut_erase k new q ∷ []) (x, n, h) = tt
 run_holds {N} {img = img} {b = b} a v d (cut_erase k new q ∷ call c ∷ es) (x, n, (by, h)) =
     let i : List ℕ = with_block (size_of N img) k new img in
     let w = cut-bare k new v x in
     let y = begin_keeps b w q c n in
     let e = restart_ends calls i w.bytes a q c n in
-    let a' : Call = begun_by a c (exec N i q c).answer in (y.0, agrees a' y.1 e, run_holds a' y.1 e es h)
+    let a' : Call = begun_by a c (exec N i q c).answer in (y.0, agrees a' y.1 e, run_holds {img = (exec N i q c).image} {r = (exec N i q c).board} a' y.1 e es h)
 run_holds a v d (cut_erase k new q ∷ cut_erase j more p ∷ es) (x, n, h) = absurd n
 
 -- ---- from a finished format on

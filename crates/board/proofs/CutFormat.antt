@@ -8,7 +8,7 @@ use lib.Dec.{eqb}
 use lib.ListN.{take}
 use borrow.Author.Tests.{eqb-true, eqb-false}
 use Rattle.frame.specs.declared.Edition.TheVariants as edition
-use Rattle.flash.specs.Flash.{apply_all, block, size_of}
+use Rattle.flash.specs.Flash.{apply_all, block, size_of, with_block}
 use Rattle.flash.proofs.Cases.{on_test}
 use Rattle.frame.specs.Reader.{clean}
 use Rattle.journal.specs.Replay.{Object}
@@ -48,9 +48,12 @@ pub record Ended (N : ℕ) (s : ℕ) (l : Left) : Type 0 where
 pub run_ends : {N : ℕ} {s : ℕ} {img : List ℕ} {r : Record} {b : Book} {u : Track} → Inv N s img r b u → (es : List Event) → Happens N (exec N) img r b es
     → Ended N s (after_all N (exec N) img r b es)
 run_ends {N} {s} {img} {r} {b} {u} v [] h = record { known = u; bare = bare_of v }
-run_ends v (call c ∷ es) (by, h) = run_ends (call_keeps v c by).1 es h
+run_ends {N} {img = img} {r = r} v (call c ∷ es) (by, h) =
+    run_ends {img = (exec N img r c).image} {r = (exec N img r c).board} (call_keeps v c by).1 es h
 run_ends {N} {u = u} v (cut_erase k new q ∷ []) (x, n, h) = record { known = u; bare = cut-bare k new v x }
-run_ends {N} {b = b} v (cut_erase k new q ∷ call c ∷ es) (x, n, (by, h)) = run_ends (begin_keeps b (cut-bare k new v x) q c n).1 es h
+run_ends {N} {img = img} {b = b} v (cut_erase k new q ∷ call c ∷ es) (x, n, (by, h)) =
+    let i : List ℕ = with_block (size_of N img) k new img in
+    run_ends {img = (exec N i q c).image} {r = (exec N i q c).board} (begin_keeps b (cut-bare k new v x) q c n).1 es h
 run_ends v (cut_erase k new q ∷ cut_erase j more p ∷ es) (x, n, h) = absurd n
 
 -- ---- some steps of a plan, made

@@ -305,21 +305,21 @@ all_fine : {N : ℕ} {s : ℕ} {img : List ℕ} {r : Record} (b : Book) → Stea
 all_fine b v [] h = tt
 all_fine {N} {s} {img} {r} b v (call (request g m reply) ∷ es) (bm, h) =
     let c : Call = request g m reply in
-    ((inl (at-most-one-step N img r c), request-fits v g m reply), all_fine (enter_call b c (exec N img r c).answer) (request-kept v g m reply bm) es h)
+    ((inl (at-most-one-step N img r c), request-fits v g m reply), all_fine {img = (exec N img r c).image} {r = (exec N img r c).board} (enter_call b c (exec N img r c).answer) (request-kept v g m reply bm) es h)
 all_fine {N} {s} {img} {r} b v (call step ∷ es) (_, h) =
-    let y = step_done v in ((y.0, step_fits v), all_fine (enter_call b step (exec N img r step).answer) y.1 es h)
+    let y = step_done v in ((y.0, step_fits v), all_fine {img = (exec N img r step).image} {r = (exec N img r step).board} (enter_call b step (exec N img r step).answer) y.1 es h)
 all_fine {N} {s} {img} {r} b v (call mount ∷ es) (_, h) =
     let y = begun_kept r v.sized v.bytes mount tt in
-    ((inl y.0, begun-fits N img r v.bytes mount tt), all_fine (enter_call b mount (exec N img r mount).answer) y.1 es h)
+    ((inl y.0, begun-fits N img r v.bytes mount tt), all_fine {img = (exec N img r mount).image} {r = (exec N img r mount).board} (enter_call b mount (exec N img r mount).answer) y.1 es h)
 all_fine {N} {s} {img} {r} b v (call format ∷ es) (_, h) =
     let y = begun_kept r v.sized v.bytes format tt in
-    ((inl y.0, begun-fits N img r v.bytes format tt), all_fine (enter_call b format (exec N img r format).answer) y.1 es h)
+    ((inl y.0, begun-fits N img r v.bytes format tt), all_fine {img = (exec N img r format).image} {r = (exec N img r format).board} (enter_call b format (exec N img r format).answer) y.1 es h)
 all_fine b v (cut_erase k new q ∷ []) h = tt
 all_fine {N} {s} {img} b v (cut_erase k new q ∷ call c ∷ es) (x, n, (_, h)) =
     let i : List ℕ = with_block (size_of N img) k new img in
     let by : Bytes i = bytes_with_lem (size_of N img) k new img x.raised.bytes v.bytes in
     let y = begun_kept q (cut-sized k new v x) by c n in
-    ((inl y.0, begun-fits N i q by c n), all_fine (enter_call b c (exec N i q c).answer) y.1 es h)
+    ((inl y.0, begun-fits N i q by c n), all_fine {img = (exec N i q c).image} {r = (exec N i q c).board} (enter_call b c (exec N i q c).answer) y.1 es h)
 all_fine b v (cut_erase k new q ∷ cut_erase j more p ∷ es) (x, n, h) = absurd n
 
 module _ (N : ℕ) (P : List ℕ → Out → Type 0) (f : (img : List ℕ) (o : Out) → Fine N img o → P img o) where

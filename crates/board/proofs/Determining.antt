@@ -240,7 +240,7 @@ module _ {N : ℕ} {m n : Machine} (pm : Calls N m) (pn : Calls N n) (img : List
           let s : Serves w x q o = pm.serves img r h msg reply x q by bm y.is_held y.is_asked a in
           let t : Serves w x q p = pn.serves img r h msg reply x q by bm y.is_held y.is_asked b in
           let job : (f : Task) → task_for h msg x q ≡ f → (f ≡ idles → ⊥) → (v : Work) × Job N img r c v =
-          λ f. elim f [
+          λ f. elim f as (λ (k : Task). task_for h msg x q ≡ k → (k ≡ idles → ⊥) → (v : Work) × Job N img r c v) [
             | idles ↦ λ e n. absurd (n refl)
             | appends g ↦ λ e n. (frame_work N img r x g, frame_job h msg reply x q g y.is_held y.is_asked e)
             | converts ↦ λ e n. (convert_work N img r x, convert-job h msg reply x q y.is_held y.is_asked e)

@@ -104,10 +104,10 @@ module _ {N : ℕ} {m : Machine} (p : Calls N m) where
   claimed_always : (s : ℕ) (img : List ℕ) (r : Record) (cs : List Call) → size_of N img ≡ s → ClaimedAtMost N m s img r cs
   claimed_always s img r [] e = tt
   claimed_always s img r (request h msg reply ∷ cs) e =
-      (λ a x v l. omega (arith, v.room, e), claimed_always s _ _ cs (size_kept img r (request h msg reply) ∙ e))
-  claimed_always s img r (step ∷ cs) e = claimed_always s _ _ cs (size_kept img r step ∙ e)
-  claimed_always s img r (mount ∷ cs) e = claimed_always s _ _ cs (size_kept img r mount ∙ e)
-  claimed_always s img r (format ∷ cs) e = claimed_always s _ _ cs (size_kept img r format ∙ e)
+      (λ a x v l. omega (arith, v.room, e), claimed_always s (m img r (request h msg reply)).image (m img r (request h msg reply)).board cs (size_kept img r (request h msg reply) ∙ e))
+  claimed_always s img r (step ∷ cs) e = claimed_always s (m img r step).image (m img r step).board cs (size_kept img r step ∙ e)
+  claimed_always s img r (mount ∷ cs) e = claimed_always s (m img r mount).image (m img r mount).board cs (size_kept img r mount ∙ e)
+  claimed_always s img r (format ∷ cs) e = claimed_always s (m img r format).image (m img r format).board cs (size_kept img r format ∙ e)
 
   module _ (img : List ℕ) (r : Record) (cs : List Call) (by : Bytes img) (ok : allowed N (length img) ≡ true) (h : Rests r.phase)
       (u : RequestRun m img r cs) where

@@ -2,7 +2,7 @@
 use mathlib.Core.Path.{◌≡◌, refl, sym, ap, subst, ◌∙◌}
 use mathlib.Core.List.{List, [], ◌∷◌, map}
 use mathlib.Core.Logic.{◌⊎◌, inl, inr}
-use mathlib.Core.Bool.{true, false, false≢true}
+use mathlib.Core.Bool.{Bool, true, false, cond, false≢true}
 use Prim.Native.Nat.{ℕ, zero, suc, ◌+◌, ◌≤◌, ◌<◌}
 use native.Mathlib.Omega.{arith}
 use lib.Dec.{eqb, ltb}
@@ -36,8 +36,15 @@ time_is e = ap time_of e
 
 pub newest-among : (y : Store) (ys : List Store) → Among (newest y ys) (y ∷ ys)
 newest-among y [] = inl refl
-newest-among y (z ∷ zs) = on_test (ltb (time_of y) (time_of z)) (λ t. rw t (inr (newest-among z zs))) (λ t. rw t (go (newest-among y zs)))
+newest-among y (z ∷ zs) = on_test (ltb (time_of y) (time_of z)) (λ t. from (newest z zs) (one t) (inr (newest-among z zs)))
+    (λ t. from (newest y zs) (one t) (go (newest-among y zs)))
   where
+    one : {b : Bool} → ltb (time_of y) (time_of z) ≡ b → newest y (z ∷ zs) ≡ cond b (newest z zs) (newest y zs)
+    one t = ap (λ (b : Bool). cond b (newest z zs) (newest y zs)) t
+
+    from : (s : Store) → newest y (z ∷ zs) ≡ s → Among s (y ∷ z ∷ zs) → Among (newest y (z ∷ zs)) (y ∷ z ∷ zs)
+    from s e a = subst (λ (t : Store). Among t (y ∷ z ∷ zs)) (sym e) a
+
     go : Among (newest y zs) (y ∷ zs) → Among (newest y zs) (y ∷ z ∷ zs)
     go (inl e) = inl e
     go (inr i) = inr (inr i)

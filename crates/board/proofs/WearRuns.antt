@@ -289,14 +289,27 @@ module _ {N : ℕ} {m : Machine} (p : Calls N m) (s : ℕ) where
   runs : (img : List ℕ) (r q : Record) (xs left : List Step) → Steady N s img q → Going N s m img r q xs left → (cs : List Call) → Undisturbed m img r cs
       → Runs N s m img r left cs xs
   runs img r q xs left v g [] u = (([], refl), λ ys e. run_ends xs ys (going-level s m img r q xs left g) e)
-  runs img r q xs [] v (h, e, y) (step ∷ cs) u =
+  runs img r q xs [] v going (step ∷ cs) u =
+      let h : Rests q.phase = going.0 in
+      let e : r ≡ q = going.1 in
+      let y : Here N s img xs = going.2 in
       let k : Rests r.phase = subst (λ (t : Record). Rests t.phase) (sym e) h in
       let a : m img r step ≡ out Done img r [] = p.rests img r k in
       let i : (m img r step).image ≡ img = ap (λ (o : Out). o.image) a in
       let w = runs (m img r step).image (m img r step).board q xs [] (steady_over img _ r q i v)
       (h, ap (λ (o : Out). o.board) a ∙ e, subst (λ (l : List ℕ). Here N s l xs) (sym i) y) cs u in
       (w.0, λ ys d. run_past step i (made_none r.phase k) (w.1 ys d))
-  runs img r q xs (x ∷ ys) v (z, i, (a, (r', b, f)), (c, (q', d, g)), (_, l)) (step ∷ cs) u =
+  runs img r q xs (x ∷ ys) v going (step ∷ cs) u =
+      let z = going.0 in
+      let i = going.1 in
+      let a = going.2.0 in
+      let r' = going.2.1.0 in
+      let b = going.2.1.1 in
+      let f = going.2.1.2 in
+      let q' = going.3.1.0 in
+      let d = going.3.1.1 in
+      let g = going.3.1.2 in
+      let l = going.4.1 in
       let n : (m img r step).image ≡ apply s x img = ap (λ (o : Out). o.image) b ∙ ap (λ (k : ℕ). apply k x img) (size-of v.sized) in
       let t : Steady N s (apply (size_of N img) x img) q' = subst (λ (o : Out). Steady N s o.image o.board) d (step_done v).1 in
       let w = runs (m img r step).image (m img r step).board q' (xs ++ (x ∷ [])) ys (subst (λ (o : Out). Steady N s o.image q') (sym b) t)
