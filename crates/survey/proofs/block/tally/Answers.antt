@@ -1,0 +1,63 @@
+-- The tally: what was counted and what is left make the whole.
+use mathlib.Core.List.{List}
+use mathlib.Core.Logic.{⊎_elim}
+use mathlib.Core.Path.{ap}
+use native.Mathlib.Omega.{arith}
+use Prim.Native.Nat.{ℕ, ◌-◌}
+use lib.ListN.{length}
+use Rattle.frame.proofs.Encode.{check-short}
+use Rattle.survey.specs.Pass.{lengths_at, settled_total}
+use Rattle.survey.proofs.HeadLaws.{tally_end, tally_no, tally_yes, same_tally}
+use Rattle.survey.proofs.block.tally.Goals as goal
+
+pub overflow_add-least : goal.overflow_add-least
+overflow_add-least c = omega (arith, c.check_len.ensures, check-short c.args.edition)
+
+pub loop-i-init : goal.loop-i-init
+loop-i-init c = (omega arith, omega arith, omega arith, omega arith, omega (arith, c.check_len.ensures))
+
+pub overflow_add-used : goal.overflow_add-used
+overflow_add-used c = omega (arith, add-used-2 c)
+
+pub overflow_cast-used : goal.overflow_cast-used
+overflow_cast-used c = omega (arith, add-used-2 c)
+
+-- what is counted here is a part of the whole
+pub overflow_add-used-then-place-ne0 : goal.overflow_add-used-then-place-ne0
+overflow_add-used-then-place-ne0 c =
+    let z = tally_yes c.args.edition c.args.block.now c.args.places.now c.loop-i.i c.loop-i-test.true c.if-place-ne0.true in
+    omega (
+      arith,
+      c.loop-i.invariant.1,
+      ap (settled_total c.args.edition) z,
+      c.length_at-n.ensures,
+      c.loop-i.invariant.4,
+      c.requires,
+    )
+
+pub loop-i-preserved : goal.loop-i-preserved
+loop-i-preserved c =
+    ⊎_elim
+    (λ w.
+    let z = tally_yes c.args.edition c.args.block.now c.args.places.now c.loop-i.i c.loop-i-test.true w.0.taken in (
+      omega (arith, c.loop-i.invariant.0, ap length z, w.2),
+      omega (arith, c.loop-i.invariant.1, ap (settled_total c.args.edition) z, w.3, w.1.ensures, c.loop-i.invariant.4),
+      omega (arith, c.loop-i-test.true),
+      omega (arith, c.loop-i.invariant.3, w.2),
+      c.loop-i.invariant.4,
+    ))
+    (λ w.
+    let z = tally_no c.args.edition c.args.block.now c.args.places.now c.loop-i.i c.loop-i-test.true w.0.left in (
+      omega (arith, c.loop-i.invariant.0, ap length z, w.1),
+      omega (arith, c.loop-i.invariant.1, ap (settled_total c.args.edition) z, w.2),
+      omega (arith, c.loop-i-test.true),
+      omega (arith, c.loop-i.invariant.3, w.1),
+      c.loop-i.invariant.4,
+    ))
+    c.if-place-ne0.branch
+
+pub returns : goal.returns
+returns c =
+    let ns : List ℕ = lengths_at c.args.edition c.args.block.now c.args.places.now 256 0 in
+    let z = tally_end c.args.edition c.args.block.now c.args.places.now c.loop-i.i c.loop-i-test.false in
+    same_tally c.args.edition ns _ _ (omega (arith, c.loop-i.invariant.0, ap length z)) (omega (arith, c.loop-i.invariant.1, ap (settled_total c.args.edition) z))
