@@ -6,4 +6,4 @@ use borrow.Author.Rules.{rules}
 use Rattle.job.proofs.actions.closed_at.Goals as goal
 
 pub returns : goal.returns
-returns c = let l : length c.args.t1 ≡ 4 = search rules in sym (get_or-eq_default c.args.t1 0 (omega arith))
+returns c = let l : length c.args.close ≡ 4 = search rules in sym (get_or-eq_default c.args.close 0 (omega arith))

@@ -26,4 +26,4 @@ pub returns-in-Append : goal.returns-in-Append
 returns-in-Append c = rw c.in-Append.is
 
 pub returns-in-Close : goal.returns-in-Close
-returns-in-Close c = rw (c.in-Close.is, c.before.Closed-at.ensures, c.close_byte.ensures)
+returns-in-Close c = rw (c.in-Close.is, c.closed_at-at.ensures, c.close_byte.ensures)

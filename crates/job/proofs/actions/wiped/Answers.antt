@@ -6,4 +6,4 @@ use borrow.Author.Rules.{rules}
 use Rattle.job.proofs.actions.wiped.Goals as goal
 
 pub returns : goal.returns
-returns c = let l : length c.args.t1 ≡ 16 = search rules in sym (get_or-eq_default c.args.t1 0 (omega arith))
+returns c = let l : length c.args.wipe ≡ 16 = search rules in sym (get_or-eq_default c.args.wipe 0 (omega arith))

@@ -7,8 +7,6 @@ use borrow.Author.Rules.{rules}
 use borrow.Author.Tests.{ltb-true}
 use Rattle.job.proofs.moves.past.Goals as goal
 
-)
-
 pub has_next-requires : goal.has_next-requires
 has_next-requires c = search rules
 
@@ -18,6 +16,7 @@ overflow_add-result c = omega (
   ltb-true (suc c.args.off) c.args.size
       (sym c.has_next.ensures ∙ c.if-has_next.true),
   c.well_formed,
+)
 
 pub returns-then-has_next : goal.returns-then-has_next
 returns-then-has_next c = rw (sym c.has_next.ensures ∙ c.if-has_next.true, add-one)

@@ -1,8 +1,6 @@
 -- A record in no job.
 use Rattle.job.proofs.records.resting.Goals as goal
 
-)
-
 pub returns : goal.returns
 returns c = rw (
   c.assemble.ensures,
@@ -10,3 +8,4 @@ returns c = rw (
   c.no_frame-2.ensures,
   c.no_job.ensures,
   c.no_cursor.ensures,
+)

@@ -9,18 +9,13 @@ use Rattle.frame.proofs.Encode.{check-short}
 use Rattle.survey.specs.Pass.{lengths_at, settled_total}
 use Rattle.survey.proofs.HeadLaws.{tally_end, tally_no, tally_yes, same_tally}
 use Rattle.survey.proofs.block.tally.Goals as goal
+use Rattle.survey.proofs.block.tally.Goals.{then-place-ne0, else-place-ne0}
 
 pub overflow_add-least : goal.overflow_add-least
 overflow_add-least c = omega (arith, c.check_len.ensures, check-short c.args.edition)
 
 pub loop-i-init : goal.loop-i-init
 loop-i-init c = (omega arith, omega arith, omega arith, omega arith, omega (arith, c.check_len.ensures))
-
-pub overflow_add-used : goal.overflow_add-used
-overflow_add-used c = omega (arith, add-used-2 c)
-
-pub overflow_cast-used : goal.overflow_cast-used
-overflow_cast-used c = omega (arith, add-used-2 c)
 
 -- what is counted here is a part of the whole
 pub overflow_add-used-then-place-ne0 : goal.overflow_add-used-then-place-ne0
@@ -35,26 +30,32 @@ overflow_add-used-then-place-ne0 c =
       c.requires,
     )
 
+pub overflow_add-used : goal.overflow_add-used
+overflow_add-used c = omega (arith, overflow_add-used-then-place-ne0 c)
+
+pub overflow_cast-used : goal.overflow_cast-used
+overflow_cast-used c = omega (arith, overflow_add-used-then-place-ne0 c)
+
 pub loop-i-preserved : goal.loop-i-preserved
 loop-i-preserved c =
-    ⊎_elim
-    (λ w.
-    let z = tally_yes c.args.edition c.args.block.now c.args.places.now c.loop-i.i c.loop-i-test.true w.0.taken in (
-      omega (arith, c.loop-i.invariant.0, ap length z, w.2),
-      omega (arith, c.loop-i.invariant.1, ap (settled_total c.args.edition) z, w.3, w.1.ensures, c.loop-i.invariant.4),
-      omega (arith, c.loop-i-test.true),
-      omega (arith, c.loop-i.invariant.3, w.2),
-      c.loop-i.invariant.4,
-    ))
-    (λ w.
-    let z = tally_no c.args.edition c.args.block.now c.args.places.now c.loop-i.i c.loop-i-test.true w.0.left in (
-      omega (arith, c.loop-i.invariant.0, ap length z, w.1),
-      omega (arith, c.loop-i.invariant.1, ap (settled_total c.args.edition) z, w.2),
-      omega (arith, c.loop-i-test.true),
-      omega (arith, c.loop-i.invariant.3, w.1),
-      c.loop-i.invariant.4,
-    ))
-    c.if-place-ne0.branch
+    elim c.if-place-ne0.branch [
+      | then-place-ne0 w ↦
+          let z = tally_yes c.args.edition c.args.block.now c.args.places.now c.loop-i.i c.loop-i-test.true w.if-place-ne0.true in (
+            omega (arith, c.loop-i.invariant.0, ap length z, w.count-is),
+            omega (arith, c.loop-i.invariant.1, ap (settled_total c.args.edition) z, w.used-is, w.length_at-n.ensures, c.loop-i.invariant.4),
+            omega (arith, c.loop-i-test.true),
+            omega (arith, c.loop-i.invariant.3, w.count-is),
+            c.loop-i.invariant.4,
+          )
+      | else-place-ne0 w ↦
+          let z = tally_no c.args.edition c.args.block.now c.args.places.now c.loop-i.i c.loop-i-test.true w.if-place-ne0.false in (
+            omega (arith, c.loop-i.invariant.0, ap length z, w.count-is),
+            omega (arith, c.loop-i.invariant.1, ap (settled_total c.args.edition) z, w.used-is),
+            omega (arith, c.loop-i-test.true),
+            omega (arith, c.loop-i.invariant.3, w.count-is),
+            c.loop-i.invariant.4,
+          )
+    ]
 
 pub returns : goal.returns
 returns c =
