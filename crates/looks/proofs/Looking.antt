@@ -1,5 +1,5 @@
 -- One look at the blocks, the last first: what it keeps is what the definitions say of them.
-use mathlib.Core.Path.{◌≡◌, refl, sym, ◌∙◌}
+use mathlib.Core.Path.{◌≡◌, refl, sym, ap, subst, ◌∙◌}
 use mathlib.Core.List.{List, [], ◌∷◌}
 use mathlib.Core.Bool.{Bool, true, false, ◌||◌, cond}
 use Prim.Native.Nat.{ℕ, zero, suc, ◌-◌, ◌≤◌, ◌<◌}
@@ -51,10 +51,18 @@ newest-more x (y ∷ ys) = go (newest y ys) (newest x (y ∷ ys)) (newest-cons x
         → cond (leb (time_of w) (time_of x)) (kept_of x (same_time (time_of x) (y ∷ ys))) (kept_of w (tied (time_of w) (y ∷ ys)))
         ≡ kept_of v (tied (time_of v) (x ∷ y ∷ ys))
     go w v e =
-        rw e (on_test (ltb (time_of x) (time_of w))
+        let zs : List Store = y ∷ ys in
+        let old : Bool → Newest = λ b. cond b (kept_of x (same_time (time_of x) zs)) (kept_of w (tied (time_of w) zs)) in
+        let Is : Store → Type 0 = λ u. old (leb (time_of w) (time_of x)) ≡ kept_of u (tied (time_of u) (x ∷ zs)) in
+        let all : (u : Store) → Bool → Newest = λ u b. kept_of u (cond b (same_time (time_of u) zs) (tied (time_of u) zs)) in
+        on_test (ltb (time_of x) (time_of w))
         (λ t. let l = ltb-true (time_of x) (time_of w) t in
-        rw (t, lt-leb (time_of w) (time_of x) l, ne_eqb (time_of w) (time_of x) (λ q. omega arith)))
-        (λ t. rw (t, le-leb (time_of w) (time_of x) (ltb-false (time_of x) (time_of w) t), eq-eqb (time_of x) (time_of x) refl)))
+        let n : v ≡ w = e ∙ ap (λ (b : Bool). cond b w x) t in
+        subst Is (sym n)
+        (ap old (lt-leb (time_of w) (time_of x) l) ∙ ap (all w) (sym (ne_eqb (time_of w) (time_of x) (λ q. omega arith)))))
+        (λ t. let n : v ≡ x = e ∙ ap (λ (b : Bool). cond b w x) t in
+        subst Is (sym n)
+        (ap old (le-leb (time_of w) (time_of x) (ltb-false (time_of x) (time_of w) t)) ∙ ap (all x) (sym (eq-eqb (time_of x) (time_of x) refl))))
 
 -- the same by what was kept so far
 newer-is : (x : Store) (xs : List Store) {w : Newest} {m same : Bool} → w ≡ newest_in xs → m ≡ some_of (replay_of x.journal).pending
