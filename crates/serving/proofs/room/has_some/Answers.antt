@@ -1,0 +1,10 @@
+-- 1 for a number above 0.
+use native.Mathlib.Omega.{arith}
+use borrow.Author.Tests.{lt-ltb, le-ltb}
+use Rattle.serving.proofs.room.has_some.Goals as goal
+
+pub returns-then-n-gt0 : goal.returns-then-n-gt0
+returns-then-n-gt0 c = (rw (lt-ltb _ _ c.if-n-gt0.true), omega arith)
+
+pub returns-else-n-gt0 : goal.returns-else-n-gt0
+returns-else-n-gt0 c = (rw (le-ltb _ _ c.if-n-gt0.false), omega arith)
