@@ -25,7 +25,7 @@ pub extern "C" fn grommetide_record_size() -> usize
 
 #[unsafe(no_mangle)]
 pub extern "C" fn grommetide_mount(image: &[u8], blocks: u8, board: &mut [u8]) -> u8
-    ensures fact { (let e : Edge = edge_mount blocks image.now board.old in
+    ensures answered { (let e : Edge = edge_mount blocks image.now board.old in
         (result ≡ e.answer) × (board.new ≡ e.board)) }
     ensures back { ReadsBack board.old board.new (mount_on blocks image.now).board }
 {
@@ -61,7 +61,7 @@ pub extern "C" fn grommetide_fault(
 
 #[unsafe(no_mangle)]
 pub extern "C" fn grommetide_format(image: &[u8], blocks: u8, board: &mut [u8]) -> u8
-    ensures fact { (let e : Edge = edge_format blocks image.now board.old in
+    ensures answered { (let e : Edge = edge_format blocks image.now board.old in
         (result ≡ e.answer) × (board.new ≡ e.board)) }
     ensures back { ReadsBack board.old board.new (format_on blocks image.now).board }
 {
@@ -82,7 +82,7 @@ pub extern "C" fn grommetide_request(
     message: &[u8],
     reply: &mut [u8],
 ) -> u8
-    ensures fact { (let e : Edge = edge_request blocks image.now board.old host message.now reply.old in
+    ensures answered { (let e : Edge = edge_request blocks image.now board.old host message.now reply.old in
         (result ≡ e.answer) × (board.new ≡ e.board) × (reply.new ≡ e.reply)) }
     ensures back { ReadsBack board.old board.new
         (request_on (asking blocks image.now (record_in board.old) (record { 0 = host })

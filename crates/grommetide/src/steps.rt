@@ -11,7 +11,7 @@ use wire::Answer;
 
 #[unsafe(no_mangle)]
 pub extern "C" fn grommetide_step(image: &mut [u8], blocks: u8, board: &mut [u8]) -> u8
-    ensures fact { (let e : Edge = edge_step blocks image.old board.old in
+    ensures answered { (let e : Edge = edge_step blocks image.old board.old in
         (result ≡ e.answer) × (image.new ≡ e.image) × (board.new ≡ e.board)) }
     ensures back { ReadsBack board.old board.new
         (step_on blocks image.old (record_in board.old)).board }
@@ -24,7 +24,7 @@ pub extern "C" fn grommetide_step(image: &mut [u8], blocks: u8, board: &mut [u8]
 
 #[unsafe(no_mangle)]
 pub extern "C" fn grommetide_made(image: &[u8], blocks: u8, board: &mut [u8]) -> u8
-    ensures fact { (let e : Edge = edge_made blocks image.now board.old in
+    ensures answered { (let e : Edge = edge_made blocks image.now board.old in
         (result ≡ e.answer) × (board.new ≡ e.board)) }
     ensures back { ReadsBack board.old board.new
         (made_on blocks image.now (record_in board.old)).board }
