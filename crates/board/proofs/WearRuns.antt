@@ -362,11 +362,8 @@ even-wear N m pm img r cs by ok u =
     (tt, t, (b, subst (λ (k : List ℕ). Ready N s k b) (sym w.image) (format_ends z).ready, level-none N (omega (arith, z.few)))) cs u in
     let n : size_of N o.image ≡ s = ap (size_of N) w.image ∙ size-of zi in
     record {
-      worked =
-          record {
-            some = y.0;
-            image = λ xs d. (y.1 xs d).told.image ∙ ap (λ (k : ℕ). apply_all k xs o.image) (sym n);
-            each = λ xs d. (y.1 xs d).told.each;
-          };
+      some = y.0;
+      image = λ xs d. (y.1 xs d).told.image ∙ ap (λ (k : ℕ). apply_all k xs o.image) (sym n);
+      each = λ xs d. (y.1 xs d).told.each;
       even = λ xs j k d hj hk. level-even (y.1 xs d).level.1 j k hj hk;
     }

@@ -12,8 +12,8 @@ use Rattle.wire.specs.declared.Answer.TheVariants.{More}
 use Rattle.board.specs.declared.Rest.{Rest}
 use Rattle.board.specs.declared.Record.{Record}
 use Rattle.board.specs.Record.{answer_of, out, no_places, rest, landing, ending, idle}
-use Rattle.board.specs.Mount.{next_block, format_order, all_found, Store, store_at, wipe_list, Upkeep, rests, mends, moves, upkeep}
-use Rattle.board.specs.Mount.{replay_of, used_of, claimed_of, places_in, closed_end, closes_for, due_reset, block_in}
+use Rattle.board.specs.Mount.{next_block, format_order, all_found, Store, store_at, wipe_list, Upkeep, rests, mends, moves, upkeep, replay_of, used_of, claimed_of}
+use Rattle.board.specs.Mount.{places_in, closed_end, closes_for, due_reset, block_in}
 use Rattle.board.specs.Queue.{counted}
 use Rattle.board.specs.Exec.{Machine, step}
 

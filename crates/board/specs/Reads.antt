@@ -28,8 +28,8 @@ frame_start a i = a.board.rest.block * size_for a + place_for a i
 -- a read looks at one frame: on an image that has the same bytes there it is answered the same, with the same stretch
 unfoldable pub ReadLocal : ℕ → Machine → Type 0
 ReadLocal N m =
-    (img other : List ℕ) (r : Record) (h : Host) (msg reply : List ℕ) (i : ObjectId) (k : Holder) (v : List ℕ)
-    → Bytes img → Bytes other → Bytes msg → Means msg (Read i) → PlaceHolds (asking N img r h msg reply) i k v
+    (img other : List ℕ) (r : Record) (h : Host) (msg reply : List ℕ) (i : ObjectId) (k : Holder) (v : List ℕ) → Bytes img → Bytes other → Bytes msg
+    → Means msg (Read i) → PlaceHolds (asking N img r h msg reply) i k v
     → AgreeFrom (frame_start (asking N img r h msg reply) i) (length (encode (reads_in r) (holding k i v))) img other
     → ((m other r (request h msg reply)).answer ≡ (m img r (request h msg reply)).answer)
     × ((m other r (request h msg reply)).stretch ≡ (m img r (request h msg reply)).stretch)
@@ -38,5 +38,5 @@ ReadLocal N m =
 -- scan of the image. What steps a request then takes is `frame_work` and `convert_work`, whose steps know of no place
 unfoldable pub ServedAsBefore : Type 0
 ServedAsBefore =
-    (a : Asking) (x : Journal) → Bytes a.image → allowed a.blocks (length a.image) ≡ true
-    → a.host.0 ≤ host_max → a.board.phase ≡ Idle → FreshFor a x → request_on a ≡ serve_parsed a x (parse a.message)
+    (a : Asking) (x : Journal) → Bytes a.image → allowed a.blocks (length a.image) ≡ true → a.host.0 ≤ host_max → a.board.phase ≡ Idle
+    → FreshFor a x → request_on a ≡ serve_parsed a x (parse a.message)

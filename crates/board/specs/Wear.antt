@@ -81,17 +81,21 @@ Undisturbed m img r (step ∷ cs) = let o : Out = m img r step in Undisturbed m 
 Undisturbed m img r (mount ∷ cs) = let o : Out = m img r mount in Rests r.phase × Undisturbed m o.image o.board cs
 Undisturbed m img r (format ∷ cs) = ⊥
 
--- of a run from a record in no job: there are steps that the calls do, and whichever they are, they are what was done to the image, one for each step call
--- in a job, an erase of a blank block too
+-- of a run from a record in no job
+pub record Wears (N : ℕ) (m : Machine) (img : List ℕ) (r : Record) (cs : List Call) : Type 0 where
+  -- there are steps that the calls do, and whichever they are: they are what was done to the image, one for each step call in a job, an erase of a
+  -- blank block too
+  pub some : (xs : List Step) × Does N m img r [] cs xs
+  pub image : (xs : List Step) → Does N m img r [] cs xs → image_after m img r cs ≡ apply_all (size_of N img) xs img
+  pub each : (xs : List Step) → Does N m img r [] cs xs → length xs ≡ steps_made m img r cs
+  -- "two blocks' erase counts differ by at most one"
+  pub even : (xs : List Step) (j k : ℕ) → Does N m img r [] cs xs → j < N → k < N → erases_of j xs ≤ suc (erases_of k xs)
+
+-- the first three of these alone
 pub record Worked (N : ℕ) (m : Machine) (img : List ℕ) (r : Record) (cs : List Call) : Type 0 where
   pub some : (xs : List Step) × Does N m img r [] cs xs
   pub image : (xs : List Step) → Does N m img r [] cs xs → image_after m img r cs ≡ apply_all (size_of N img) xs img
   pub each : (xs : List Step) → Does N m img r [] cs xs → length xs ≡ steps_made m img r cs
-
-pub record Wears (N : ℕ) (m : Machine) (img : List ℕ) (r : Record) (cs : List Call) : Type 0 where
-  pub worked : Worked N m img r cs
-  -- "two blocks' erase counts differ by at most one"
-  pub even : (xs : List Step) (j k : ℕ) → Does N m img r [] cs xs → j < N → k < N → erases_of j xs ≤ suc (erases_of k xs)
 
 unfoldable pub EvenWear : Type 0
 EvenWear =

@@ -21,8 +21,7 @@ fn load(image: &[u8], blocks: u8, n: Numbers, board: &mut [u8])
 {
     let kind = unpack::append_byte(board, KIND_AT);
     let by = unpack::append_byte(board, BODY_AT);
-    let mut places = [0u16; 256];
-    unpack::read_places(board, &mut places);
+    let mut places = unpack::places(board);
     let mut unit = unpack::unit(board);
     let s = job::enter_copy(image, blocks, n, kind, by, &mut places, &mut unit);
     pack::write_loaded(s, &places, &unit, board);

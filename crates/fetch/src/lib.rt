@@ -4,10 +4,10 @@ ghost use Rattle.journal.specs.Index.{value_at, next_settled, next_pending, next
 ghost use Rattle.fetch.specs.Fetch.{found_of, fetched_of};
 ghost use Rattle.fetch.specs.Fetch.{value_head, pending_head};
 
-mod numbers;
+mod hosts;
 
 use frame::{Edition, FrameRead, Head, ObjectId, PUT_VALUE_AT, SETTLED_VALUE_AT};
-pub use numbers::{of_host, set_place, with_host};
+pub use hosts::{of_host, with_host};
 
 // Where in a block a value starts, and how many bytes it has.
 #[derive(Clone, Copy)]
@@ -106,8 +106,8 @@ fn is_pending(since: [u16; 4], at: usize, head: Head) -> bool
     ensures { result ≡ pending_head since at head }
 {
     match head {
-        Head::Put(host, _, _) => numbers::of_host(since, host) as usize <= at,
-        Head::Delete(host, _) => numbers::of_host(since, host) as usize <= at,
+        Head::Put(host, _, _) => hosts::of_host(since, host) as usize <= at,
+        Head::Delete(host, _) => hosts::of_host(since, host) as usize <= at,
         Head::Commit(_) => false,
         Head::Abort(_) => false,
         Head::Settled(_, _) => false,

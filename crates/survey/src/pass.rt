@@ -1,11 +1,21 @@
 // What each frame of a block adds to what was found before it.
-ghost use Rattle.std.specs.Prelude.{◌≡◌, ℕ, ◌+◌, ◌≤◌, ◌<◌, length, get_or, take};
+ghost use Rattle.std.specs.Prelude.{◌≡◌, ℕ, ◌+◌, ◌≤◌, ◌<◌, length, get_or, take, set};
 ghost use Rattle.frame.specs.Code.{head_len};
 ghost use Rattle.journal.specs.Block.{block_max};
 ghost use Rattle.survey.specs.Pass.{place_head, recommit, grown, ended, ended_all, passed, took_frame, took_places};
 
 use crate::Progress;
-use frame::{Edition, Head, Host};
+use frame::{Edition, Head, Host, ObjectId};
+
+// An id's place.
+fn store(places: &mut [u16], id: ObjectId, at: u16)
+    ensures { places.new ≡ set places.old id.0 at }
+{
+    let i = id.0 as usize;
+    if i < places.len() {
+        places[i] = at;
+    }
+}
 
 // A host's put or delete at an offset, as its commit applies it.
 fn place_own(places: &mut [u16; 256], host: Host, at: u16, head: Head)
@@ -14,14 +24,14 @@ fn place_own(places: &mut [u16; 256], host: Host, at: u16, head: Head)
     match head {
         Head::Put(h, id, _) => {
             if host.0 == h.0 {
-                fetch::set_place(places, id, at);
+                store(places, id, at);
                 return;
             }
             return;
         }
         Head::Delete(h, id) => {
             if host.0 == h.0 {
-                fetch::set_place(places, id, 0);
+                store(places, id, 0);
                 return;
             }
             return;
@@ -151,7 +161,7 @@ pub fn take_frame(
         }
         Head::Abort(host) => end_list(p, host, size),
         Head::Settled(id, _) => {
-            fetch::set_place(places, id, end);
+            store(places, id, end);
             pass_over(p, id.0 as usize + 1, size)
         }
         Head::Closed(_) => pass_over(p, 256, size),

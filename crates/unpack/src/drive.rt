@@ -4,7 +4,7 @@ ghost use Rattle.frame.specs.Frame.{buffer_len};
 ghost use Rattle.job.specs.Code.{numbers_of, in_hand};
 ghost use Rattle.lent.specs.Layout.{bytes_in, record_in};
 
-use crate::{cursor_in, fill_places, frame_in, job_in, phase_of, rest_of, tail};
+use crate::{cursor_in, fill_places, frame_in, job_in, phase_of, places_in, rest_of, tail};
 use board::{Phase, Stage};
 use flash::byte_at;
 use frame::BUFFER_LEN;
@@ -20,6 +20,13 @@ pub fn numbers(bytes: &[u8]) -> Numbers
         job: job_in(tail(bytes, lent::JOB_AT)),
         cursor: cursor_in(tail(bytes, lent::CURSOR_AT)),
     }
+}
+
+// The places, the frame that is copied and the frame to append.
+pub fn places(bytes: &[u8]) -> [u16; 256]
+    ensures { result ≡ (record_in bytes.now).places }
+{
+    places_in(tail(bytes, lent::PLACES_AT))
 }
 
 // An inner part of the C library: the places into an array that is lent, which has 256 by its type. By value they would stand on the

@@ -9,7 +9,7 @@ ghost use Rattle.wire.specs.Message.{word_at};
 ghost use Rattle.lent.specs.Layout.{phase_in, bytes_in, words_in, number_in, flag_in, job_in, cursor_in, record_in};
 
 use board::{Cursor, Job, Phase, Record, Stage};
-pub use drive::{append, append_byte, in_hand, numbers, read_places, unit, unit_byte};
+pub use drive::{append, append_byte, in_hand, numbers, places, read_places, unit, unit_byte};
 use flash::{MAX_BLOCKS, byte_at};
 use frame::BUFFER_LEN;
 pub use head::{phase_of, place_of, rest_of};

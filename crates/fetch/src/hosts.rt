@@ -1,7 +1,7 @@
-// Arrays of numbers: one for each host, a place for each id.
+// A number for each host.
 ghost use Rattle.std.specs.Prelude.{◌≡◌, get_or, set};
 
-use frame::{Host, ObjectId};
+use frame::Host;
 
 // A host's number; 0 for a host that isn't there.
 pub fn of_host(numbers: [u16; 4], host: Host) -> u16
@@ -36,14 +36,4 @@ pub fn with_host(numbers: [u16; 4], host: Host, at: u16) -> [u16; 4]
         m[3] = at;
     }
     m
-}
-
-// An id's place.
-pub fn set_place(places: &mut [u16], id: ObjectId, at: u16)
-    ensures { places.new ≡ set places.old id.0 at }
-{
-    let i = id.0 as usize;
-    if i < places.len() {
-        places[i] = at;
-    }
 }

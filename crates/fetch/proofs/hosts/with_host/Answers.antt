@@ -5,7 +5,7 @@ use Prim.Native.Nat.{◌≤◌}
 use lib.ListN.{length}
 use lib.Seq.{set_out}
 use borrow.Author.Rules.{rules}
-use Rattle.fetch.proofs.numbers.with_host.Goals as goal
+use Rattle.fetch.proofs.hosts.with_host.Goals as goal
 
 pub returns-then-i-eq0 : goal.returns-then-i-eq0
 returns-then-i-eq0 c = rw c.if-i-eq0.true

@@ -4,7 +4,7 @@ use native.Mathlib.Omega.{arith}
 use Prim.Native.Nat.{◌≤◌}
 use lib.ListN.{length, get_or-eq_default}
 use borrow.Author.Rules.{rules}
-use Rattle.fetch.proofs.numbers.of_host.Goals as goal
+use Rattle.fetch.proofs.hosts.of_host.Goals as goal
 
 pub returns : goal.returns
 returns c =

@@ -1,0 +1,16 @@
+-- A place stored; past the table there is none.
+use mathlib.Core.Path.{sym}
+use lib.Seq.{set_out}
+use borrow.Author.Rules.{rules}
+use Rattle.survey.proofs.pass.store.Statement.{statement}
+use Rattle.survey.proofs.pass.store.Tie as tie
+
+pub store_spec : {M : Type 1} → statement M
+store_spec =
+    tie.close (tie.spec
+    (λ c. search rules)
+    (λ c. search rules)
+    (λ c. search rules)
+    (λ c. search rules)
+    (λ c. search rules)
+    (λ c. sym (set_out _ _ _ c.if1.false)))
