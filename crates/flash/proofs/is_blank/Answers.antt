@@ -1,6 +1,5 @@
 -- The blank test: what is left from i on is blank exactly if the whole is.
 use mathlib.Core.Path.{refl, sym, ◌∙◌}
-use Prim.Native.Nat.{◌-◌}
 use native.Mathlib.Omega.{arith}
 use borrow.Author.Tests.{not-true, not-false}
 use Rattle.flash.proofs.Eights.{eight_on, eight_stop}

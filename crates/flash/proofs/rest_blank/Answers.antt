@@ -1,6 +1,5 @@
 -- The blank test byte by byte: what is left from i on is blank exactly if all from the start on is.
 use mathlib.Core.Path.{refl, sym, ◌∙◌}
-use Prim.Native.Nat.{◌-◌}
 use native.Mathlib.Omega.{arith}
 use Rattle.flash.proofs.Stretches.{all_ff-on, all_ff-stop, all_ff-end}
 use Rattle.flash.proofs.rest_blank.Goals as goal
