@@ -8,7 +8,6 @@ use lib.Dec.{eqb}
 use borrow.Author.Tests.{eqb-false, ltb-false, eqb-true}
 use Rattle.flash.proofs.Cases.{on_test}
 use Rattle.frame.specs.declared.Edition.{Edition}
-use Rattle.frame.specs.declared.Edition.TheVariants as edition
 use Rattle.frame.specs.declared.Host.{Host}
 use Rattle.frame.specs.Frame.{host_max, Change, put, delete, Frame, change, commit, abort, frame_len, end_len, host_of, total}
 use Rattle.journal.specs.Replay.{Entry, entry, State, next_state, list_of, without, is_open_of, change_all}

@@ -10,7 +10,7 @@ use lib.Dec.{ltb}
 use lib.ListN.{length}
 use borrow.Author.Tests.{ltb-true, ltb-false}
 use Rattle.flash.specs.Bytes.{Bytes}
-use Rattle.flash.specs.Flash.{Step, erase, apply, block, size_of, size_in}
+use Rattle.flash.specs.Flash.{Step, erase, apply, size_of, size_in}
 use Rattle.flash.proofs.Cases.{on_test}
 use Rattle.flash.proofs.Image.{length-apply, bytes-apply}
 use Rattle.journal.specs.Laws.{by_edition}

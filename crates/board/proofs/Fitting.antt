@@ -20,7 +20,6 @@ use Rattle.board.specs.Mount.{replay_of}
 use Rattle.board.specs.Table.{task_for, appends, idles, end_task, convert_task}
 use Rattle.board.proofs.Checks.{room_rule}
 use Rattle.board.proofs.Current.{Roomy}
-use Rattle.board.proofs.Requests.{legal}
 use Rattle.board.proofs.Editions.{ends-one, ends-fewer}
 use Rattle.board.proofs.Serving.{Legal}
 

@@ -10,7 +10,7 @@ use lib.ListN.{length, length-append}
 use borrow.Author.Tests.{eqb-true, eqb-false}
 use Rattle.flash.specs.Flash.{numbers_from, block_numbers, block, size_of}
 use Rattle.flash.proofs.Cases.{on_test}
-use Rattle.journal.specs.Block.{Journal, BlockState, blank, in_progress, valid, foreign, block_state, journal}
+use Rattle.journal.specs.Block.{Journal, BlockState, blank, in_progress, valid, foreign, block_state}
 use Rattle.board.specs.Mount.{Store, all_found, stores, newest, numbers_but, tied, order_for, format_order, time_of}
 use Rattle.board.specs.CutFormat.{Beside}
 use Rattle.board.proofs.Numbers.{length_numbers, length_but}

@@ -1,7 +1,7 @@
 -- A mount is refused exactly as the table's lines say; the states of blocks in words.
 use mathlib.Core.Path.{◌≡◌, refl, sym, ap, ap₂, subst, ◌∙◌, subst₂}
 use mathlib.Core.List.{List, [], ◌∷◌}
-use mathlib.Core.Logic.{◌⊎◌, inl, inr}
+use mathlib.Core.Logic.{inl, inr}
 use mathlib.Core.Option.{some, Option}
 use mathlib.Core.Bool.{true, false}
 use Prim.Native.Nat.{ℕ, ◌≤◌, ◌<◌}
@@ -14,8 +14,7 @@ use Rattle.flash.specs.Flash.{block, size_of}
 use Rattle.flash.proofs.Cases.{on_test, on-order, clash}
 use Rattle.flash.proofs.Image.{bytes-block}
 use Rattle.frame.specs.declared.Fault.{Fault}
-use Rattle.frame.specs.Reader.{Tail, clean, cut, bad, fault}
-use Rattle.journal.specs.Replay.{Entry}
+use Rattle.frame.specs.Reader.{fault}
 use Rattle.journal.specs.Block.{Journal, valid, foreign, block_state, header_len}
 use Rattle.journal.proofs.Sentences.{states-exact}
 use Rattle.wire.specs.declared.Refusal.{Refusal}

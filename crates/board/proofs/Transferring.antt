@@ -25,7 +25,7 @@ use Rattle.journal.proofs.Replaying.{replay_frames_of, stands-settled}
 use Rattle.journal.proofs.Room.{frames-total, used-claimed, claimed-settled, claimed-replay}
 use Rattle.journal.specs.Index.{places_of}
 use Rattle.board.specs.declared.Rest.{Rest}
-use Rattle.board.specs.Record.{rest, landing, idle}
+use Rattle.board.specs.Record.{landing, idle}
 use Rattle.board.specs.Mount.{next_block, replay_of}
 use Rattle.board.specs.Plan.{on_block, transfer_plan}
 use Rattle.board.specs.Claim.{Track}

@@ -12,7 +12,6 @@ use Rattle.flash.specs.Flash.{numbers_from, block, size_of}
 use Rattle.flash.proofs.Cases.{on_test, on-order, and_both}
 use Rattle.flash.proofs.Image.{bytes-block}
 use Rattle.journal.specs.Block.{Journal, BlockState, blank, in_progress, valid, foreign, block_state, last_time}
-use Rattle.journal.proofs.Places.{Standing}
 use Rattle.journal.proofs.States.{Contents, valid_inv}
 use Rattle.wire.specs.declared.Refusal.{Refusal}
 use Rattle.wire.specs.declared.Refusal.TheVariants as refusal

@@ -1,4 +1,6 @@
 // The board's types: what a record holds.
+#![tactic(auto)]
+
 use flash::MAX_BLOCKS;
 use frame::BUFFER_LEN;
 use wire::Refusal;

@@ -1,4 +1,6 @@
 // CRC-32, two bytes at a time: four bits each from a table of their own, so that no lookup waits for another.
+#![tactic(auto)]
+
 ghost use Rattle.std.specs.Int.Bits.{bit_xor};
 ghost use Rattle.std.specs.Prelude.{◌≡◌, ◌%◌};
 ghost use Rattle.crc.specs.Crc.{crc32_of, shift32, shifted32, times};

@@ -20,7 +20,7 @@ use Rattle.board.specs.declared.Phase.{Phase}
 use Rattle.board.specs.declared.Phase.TheVariants.{Unmounted, Idle, Busy}
 use Rattle.board.specs.declared.Cursor.{Cursor}
 use Rattle.board.specs.declared.Record.{Record}
-use Rattle.board.specs.Record.{Out, out, in_stage, refuse, answer_in, answer_of, cursor}
+use Rattle.board.specs.Record.{Out, in_stage, refuse, answer_in, answer_of, cursor}
 use Rattle.board.specs.Step.{action, advance, next_index, next_byte, same_shape, stepped, step_busy, step_in, step_on}
 use Rattle.board.specs.Drive.{Drove, drove, run_from, run_on_of}
 use Rattle.board.proofs.Pipeline.{inside-yes}

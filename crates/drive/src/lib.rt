@@ -1,4 +1,6 @@
 // Flash that the caller drives: a job's next step told, and made; and many steps in one call.
+#![tactic(auto)]
+
 mod bursts;
 mod calls;
 mod runs;

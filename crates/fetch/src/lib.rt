@@ -1,4 +1,6 @@
 // Values by their places, and the frames that a transfer copies.
+#![tactic(auto)]
+
 ghost use Rattle.std.specs.Prelude.{◌≡◌, List, ℕ, ◌-◌, ◌<◌, length, drop};
 ghost use Rattle.journal.specs.Index.{value_at, next_settled, next_pending, next_load_of};
 ghost use Rattle.fetch.specs.Fetch.{found_of, fetched_of};

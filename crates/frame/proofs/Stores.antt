@@ -1,7 +1,7 @@
 -- Stores: a copy to the front of a list, one byte a turn, and a frame that is put together in a buffer.
 use mathlib.Core.Path.{◌≡◌, refl, sym, ap, ap₂, ◌∙◌}
 use mathlib.Core.List.{List, [], ◌∷◌, ◌++◌, append_assoc, append-nil}
-use Prim.Native.Nat.{ℕ, zero, suc, ◌+◌, ◌-◌, ◌/◌, ◌%◌, ◌≤◌, ◌<◌}
+use Prim.Native.Nat.{ℕ, zero, suc, ◌+◌, ◌-◌, ◌/◌, ◌%◌, ◌<◌}
 use native.Mathlib.Omega.{arith}
 use native.Mathlib.Numerals.{add-one}
 use lib.ListN.{length, get_or, take, drop, set, replicate, length-append, length-replicate, drop_of_length-le}
@@ -10,7 +10,7 @@ use Rattle.flash.specs.Bytes.{u16le, u32le}
 use Rattle.crc.specs.Crc.{crc32_of}
 use Rattle.frame.specs.declared.Edition.{Edition}
 use Rattle.frame.specs.declared.Edition.TheVariants as edition
-use Rattle.frame.specs.Frame.{seal_of, Frame, kind_of, body, check, check_len, finish, sealed, front, encode, frame_len, buffer}
+use Rattle.frame.specs.Frame.{seal_of, Frame, kind_of, body, check_len, finish, sealed, front, encode, frame_len, buffer}
 use Rattle.frame.proofs.Encode.{kind-small, length-sealed}
 
 pub copy_more : (s d : List ℕ) (i : ℕ) → i < length s → i < length d → set (take i s ++ drop i d) i (get_or s i 0) ≡ take (i + 1) s ++ drop (i + 1) d

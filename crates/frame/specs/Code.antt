@@ -1,7 +1,6 @@
 -- Frames and reads as the code has them: without the value's bytes.
 use Rattle.std.specs.Prelude.{List, [], ℕ, length, get_or, drop}
 use Rattle.frame.specs.declared.Edition.{Edition}
-use Rattle.frame.specs.declared.Edition.TheVariants as edition
 use Rattle.frame.specs.declared.Head.{Head}
 use Rattle.frame.specs.declared.Head.TheVariants as head
 use Rattle.frame.specs.declared.FrameRead.{FrameRead}

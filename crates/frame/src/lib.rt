@@ -1,4 +1,6 @@
 // Frames: what a journal is made of.
+#![tactic(auto)]
+
 ghost use Rattle.std.specs.Prelude.{◌≡◌};
 ghost use Rattle.frame.specs.Frame.{edition_number, edition_by, check_len};
 ghost use Rattle.frame.specs.Code.{head_len, value_len_of, value_start};

@@ -1,4 +1,6 @@
 // A job of the board: the records that it goes through, and its steps.
+#![tactic(auto)]
+
 mod actions;
 mod header;
 mod moves;

@@ -1,5 +1,5 @@
 -- A torn frame closed in place: what the block holds after each write.
-use mathlib.Core.Path.{◌≡◌, refl, sym, ap, ap₂, subst, subst₂, ◌∙◌}
+use mathlib.Core.Path.{◌≡◌, refl, sym, ap, subst, ◌∙◌}
 use mathlib.Core.List.{List, [], ◌∷◌, ◌++◌, append_assoc}
 use mathlib.Core.Logic.{◌⊎◌, inl, inr}
 use Prim.Native.Nat.{ℕ, zero, suc, ◌+◌, ◌-◌, ◌≤◌, ◌<◌}
@@ -14,9 +14,9 @@ use Rattle.flash.specs.Flash.{program_at, Write, write, write_all}
 use Rattle.flash.proofs.Cases.{on_test}
 use Rattle.flash.proofs.Blank.{bytes_right}
 use Rattle.flash.proofs.Image.{length-program, program-same, program-other, bytes-program}
-use Rattle.flash.proofs.Offsets.{Below, below_more, Off}
+use Rattle.flash.proofs.Offsets.{Below, Off}
 use Rattle.frame.specs.declared.Edition.{Edition}
-use Rattle.frame.specs.Frame.{Frame, closed, finish, encode, encode_all, total, frame_len, next_of}
+use Rattle.frame.specs.Frame.{Frame, closed, finish, encode, encode_all, total, next_of}
 use Rattle.frame.specs.Reader.{Tail, clean, cut, bad}
 use Rattle.frame.specs.Sentences.{Torn}
 use Rattle.frame.proofs.Encode.{length-all, encode_snoc, stands-append}

@@ -1,3 +1,5 @@
+#![tactic(auto)]
+
 // The journal of a block: the offsets and states of its header. What the frames after it mean is in specs/.
 // A block's header: its length, the offsets of creation time, state byte and spare bytes, and two of the states.
 pub const HEADER_LEN: usize = 16;

@@ -1,4 +1,6 @@
 // The board record lent as bytes, for the edge to C. Here is where each field stands: right after the one before it.
+#![tactic(auto)]
+
 use flash::MAX_BLOCKS;
 use frame::BUFFER_LEN;
 

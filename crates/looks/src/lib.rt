@@ -1,4 +1,6 @@
 // What is found out about an image: mounts, formats and requests begin with it.
+#![tactic(auto)]
+
 pub mod image;
 pub mod lists;
 mod looks;

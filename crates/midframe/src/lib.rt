@@ -1,4 +1,6 @@
 // The middle of a frame, where most of all steps are: what is next there, and the cursor that counts it. Nothing else of the record's bytes changes.
+#![tactic(auto)]
+
 ghost use Rattle.std.specs.Prelude.{◌≡◌, true, List, ℕ, length};
 ghost use Rattle.flash.specs.Flash.{program};
 ghost use Rattle.board.specs.declared.Stage.TheVariants.{Copy, Append};

@@ -1,4 +1,6 @@
 // The record written to its buffer: whole, or where a call changed it.
+#![tactic(auto)]
+
 mod drive;
 mod jobs;
 

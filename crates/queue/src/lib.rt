@@ -1,4 +1,6 @@
 // The queue in code: requests and reads, each equal to its definition, on every input.
+#![tactic(auto)]
+
 mod gate;
 mod held;
 mod reads;

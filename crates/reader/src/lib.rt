@@ -1,4 +1,6 @@
 // Reading a frame out of any bytes.
+#![tactic(auto)]
+
 ghost use Rattle.std.specs.Prelude.{◌≡◌, ◌+◌, ◌-◌, ◌≤◌, ◌<◌, eqb, length, get_or, take, drop, true};
 ghost use Rattle.flash.specs.Bytes.{le16};
 ghost use Rattle.frame.specs.Frame.{put_len, delete_len, end_len, settled_len, closed_len, reset_len, ClosedLength, id_of, check_len};

@@ -1,1 +1,3 @@
+#![tactic(auto)]
+
 // No code: the bench rows, and the wrong stores that the promise refutes.

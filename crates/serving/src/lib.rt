@@ -1,4 +1,6 @@
 // The requests, once nothing earlier refuses them.
+#![tactic(auto)]
+
 ghost use Rattle.std.specs.Prelude.{◌≡◌, ◌≤◌, length, take, get_or};
 ghost use Rattle.frame.specs.declared.Edition.TheVariants as edition;
 ghost use Rattle.frame.specs.Frame.{value_max};

@@ -1,4 +1,6 @@
 // Mount and format in code: each equal to its definition, on every input.
+#![tactic(auto)]
+
 mod mends;
 mod mounts;
 

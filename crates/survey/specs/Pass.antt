@@ -7,7 +7,7 @@ use Rattle.frame.specs.declared.Host.{Host}
 use Rattle.frame.specs.declared.Fault.{Fault}
 use Rattle.frame.specs.declared.Head.{Head}
 use Rattle.frame.specs.declared.Head.TheVariants as head
-use Rattle.frame.specs.Frame.{put, delete, Frame, change, commit, abort, settled, closed, reset}
+use Rattle.frame.specs.Frame.{put, delete, Frame}
 use Rattle.frame.specs.Frame.{put_len, delete_len, end_len, settled_len, closed_len, reset_len, total, next_of}
 use Rattle.frame.specs.Reader.{clean, cut, bad, Scan, scan}
 use Rattle.frame.specs.Reader.{Tail as ScanTail}

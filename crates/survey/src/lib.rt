@@ -1,4 +1,6 @@
 // Reading a block: its header, its frames, and what replaying them gives.
+#![tactic(auto)]
+
 mod block;
 mod header;
 mod pass;

@@ -1,4 +1,6 @@
 // The record from bytes: every content of every length is some record.
+#![tactic(auto)]
+
 mod drive;
 mod head;
 

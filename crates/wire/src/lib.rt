@@ -1,4 +1,6 @@
 // Messages, answers and the log page: what hosts send, and what they get.
+#![tactic(auto)]
+
 ghost use Rattle.std.specs.Prelude.{◌≡◌, ◌+◌, ◌<◌, get_or};
 ghost use Rattle.wire.specs.Answer.{refusal_number, edge_number, refused_number, field_number, spot, refusal_spot, spot_of};
 ghost use Rattle.wire.specs.Message.{word_at, id_in, value_in_of, is_if, only_id, no_body, id_and_value, summary_page, of_kind, parse, of_read_kind, log_page};

@@ -2,7 +2,6 @@
 use Rattle.frame.proofs.Heads.{value-end}
 use mathlib.Core.Path.{refl, sym, ap, ◌∙◌}
 use native.Mathlib.Omega.{arith}
-use Prim.Native.Nat.{◌-◌}
 use Rattle.fetch.proofs.HeadLaws.{no_blank, no_torn, no_wrong, skip_pending, fetch_pending}
 use Rattle.fetch.specs.Fetch.{fetched_of}
 use Rattle.fetch.proofs.FrameReads.{read-inside}

@@ -1,6 +1,5 @@
 -- The next settled frame: from i on it is the same as from the first id on.
 use mathlib.Core.Path.{refl, sym, ap, ◌∙◌}
-use Prim.Native.Nat.{◌-◌}
 use Rattle.fetch.proofs.HeadLaws.{fetch-settled}
 use Rattle.fetch.specs.Fetch.{fetched_of}
 use Rattle.fetch.proofs.Fetching.{found_none, found_at, settled_end, settled_no, settled_yes}

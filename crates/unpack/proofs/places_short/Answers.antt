@@ -1,6 +1,5 @@
 -- The places: after i turns the first i words are read.
 use mathlib.Core.Path.{refl}
-use Prim.Native.Nat.{◌-◌}
 use native.Mathlib.Omega.{arith}
 use lib.ListN.{length-set}
 use Rattle.lent.specs.Layout.{words_in}

@@ -1,6 +1,5 @@
 -- Bytes programmed from a place on.
 use mathlib.Core.Path.{refl, sym, ◌∙◌}
-use Prim.Native.Nat.{◌-◌}
 use native.Mathlib.Omega.{arith}
 use lib.ListN.{length-set}
 use Rattle.drive.proofs.Telling.{write_first, write_one, write_last}

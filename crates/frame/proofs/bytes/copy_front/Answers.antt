@@ -1,7 +1,7 @@
 -- The copy loop: what is copied so far, and the old bytes after it.
 use native.Mathlib.Omega.{arith}
 use mathlib.Core.Path.{◌≡◌}
-use Prim.Native.Nat.{◌-◌, ◌<◌}
+use Prim.Native.Nat.{◌<◌}
 use lib.ListN.{length, length-set}
 use lib.Seq.{take-length}
 use Rattle.frame.proofs.Stores.{copy_more}

@@ -1,6 +1,6 @@
 -- After the old block erased.
 use Rattle.job.specs.Code.{landed_on}
-use Rattle.board.specs.Step.{advance, landed}
+use Rattle.board.specs.Step.{advance}
 use Rattle.job.proofs.Entering.{append_leaves}
 use Rattle.job.proofs.moves.after_drop.Goals as goal
 

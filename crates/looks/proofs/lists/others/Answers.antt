@@ -1,6 +1,5 @@
 -- The blocks below k are passed.
 use mathlib.Core.Path.{ap}
-use Prim.Native.Nat.{◌-◌}
 use native.Mathlib.Omega.{arith}
 use native.Mathlib.Numerals.{add-one}
 use Rattle.looks.specs.declared.lists.Erases.{Erases}

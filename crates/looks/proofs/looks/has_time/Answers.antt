@@ -1,6 +1,5 @@
 -- A search by index.
 use mathlib.Core.Path.{refl, sym, ◌∙◌}
-use Prim.Native.Nat.{◌-◌}
 use native.Mathlib.Omega.{arith}
 use native.Mathlib.Numerals.{add-one}
 use Rattle.looks.proofs.Looking.{time-here, time-on, time-past}

@@ -1,5 +1,5 @@
 -- From the last block down: what is kept tells of the blocks from k on.
-use Prim.Native.Nat.{◌-◌, ◌≤◌}
+use Prim.Native.Nat.{◌≤◌}
 use Rattle.looks.proofs.Looked.{Looked}
 use Rattle.looks.proofs.looks.look.Given as goal
 

@@ -1,7 +1,6 @@
 -- Every byte 0, one by one.
 use mathlib.Core.Path.{◌≡◌, ◌∙◌}
 use mathlib.Core.List.{append-nil}
-use Prim.Native.Nat.{◌-◌}
 use native.Mathlib.Omega.{arith}
 use lib.ListN.{length, length-set, drop_of_length-le}
 use borrow.Author.Fill.{fill_more}

@@ -1,7 +1,6 @@
 -- The blank test block by block: those from k on are blank exactly if all are.
 use mathlib.Core.Path.{sym, ◌∙◌}
 use mathlib.Core.Bool.{true, false}
-use Prim.Native.Nat.{◌-◌}
 use native.Mathlib.Omega.{arith}
 use borrow.Author.Tests.{not-true, not-false}
 use Rattle.queue.proofs.Images.{blank_start, blank_on, blank_end}

@@ -5,7 +5,7 @@ use borrow.Author.Tests.{not-true, not-false}
 use Rattle.board.specs.Queue.{Asking, asking}
 use Rattle.job.specs.Code.{placed}
 use Rattle.queue.specs.Calls.{read_as_of, telling}
-use Rattle.queue.proofs.Asking.{Passed, passed, shut}
+use Rattle.queue.proofs.Asking.{passed, shut}
 use Rattle.queue.proofs.Finding.{shut_finds, other_finds, read_finds}
 use Rattle.queue.proofs.reads.find.Goals as goal
 

@@ -5,7 +5,7 @@ use Rattle.board.specs.declared.Record.{Record}
 use Rattle.board.specs.Record.{resting}
 use Rattle.board.specs.Queue.{Asking, asking}
 use Rattle.queue.specs.Calls.{alike}
-use Rattle.queue.proofs.Asking.{Passed, passed, shut}
+use Rattle.queue.proofs.Asking.{passed, shut}
 use Rattle.queue.proofs.Handing.{refused_all, asked-idle}
 use Rattle.queue.proofs.Finding.{read_asks}
 use Rattle.queue.proofs.requests.request_core.Goals as goal

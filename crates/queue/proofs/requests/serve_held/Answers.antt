@@ -1,20 +1,13 @@
 -- 11 by the image's shape and by its current block, then 1, or the request is served.
-use mathlib.Core.Path.{◌≡◌, refl, sym, ◌∙◌}
-use mathlib.Core.List.{List}
-use mathlib.Core.Option.{some}
-use mathlib.Core.Bool.{◌&&◌}
-use Prim.Native.Nat.{ℕ}
+use mathlib.Core.Path.{refl, sym, ◌∙◌}
 use borrow.Author.Tests.{not-true, not-false}
-use Rattle.flash.specs.Bytes.{same_bytes_of}
 use Rattle.flash.proofs.Blank.{bytes_of}
-use Rattle.journal.specs.Block.{Journal, valid}
-use Rattle.survey.specs.Survey.{survey_of, places_in, state_of}
 use Rattle.wire.specs.declared.Refusal.TheVariants as refusal
 use Rattle.board.specs.declared.Record.{Record}
 use Rattle.board.specs.Record.{idle}
-use Rattle.board.specs.Queue.{held, Asking, asking}
+use Rattle.board.specs.Queue.{Asking, asking}
 use Rattle.board.proofs.Outcomes.{request_stale, request_malformed}
-use Rattle.queue.specs.Calls.{as_recorded, alike}
+use Rattle.queue.specs.Calls.{alike}
 use Rattle.queue.proofs.Asking.{Looked, current_is, not_same, not_fresh, was_fresh}
 use Rattle.queue.proofs.Handing.{refused_all, held-alike, survey_fits, served_reply, served_asks}
 use Rattle.queue.proofs.requests.serve_held.Goals as goal

@@ -7,7 +7,6 @@ use lib.ListN.{get_or}
 use borrow.Author.Tests.{eq-eqb, ne_eqb}
 use Rattle.frame.specs.Frame.{finish, check_len}
 use Rattle.frame.specs.declared.Edition.{Edition}
-use Rattle.frame.specs.declared.Edition.TheVariants as edition
 use Rattle.reader.specs.Whole.{sealed}
 use Rattle.reader.proofs.Short.{open_seal}
 use Rattle.reader.proofs.whole.is_sealed.Goals as goal

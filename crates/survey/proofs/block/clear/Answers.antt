@@ -1,7 +1,7 @@
 -- A table of zeros: as many as were passed stand in front.
 use mathlib.Core.Path.{◌≡◌, ◌∙◌}
 use native.Mathlib.Omega.{arith}
-use Prim.Native.Nat.{ℕ, ◌-◌, ◌≤◌}
+use Prim.Native.Nat.{ℕ, ◌≤◌}
 use lib.ListN.{length, replicate, length-set}
 use borrow.Author.Fill.{fill_more}
 use mathlib.Core.List.{append-nil}

@@ -1,9 +1,8 @@
 -- The tally: what was counted and what is left make the whole.
 use mathlib.Core.List.{List}
-use mathlib.Core.Logic.{⊎_elim}
 use mathlib.Core.Path.{ap}
 use native.Mathlib.Omega.{arith}
-use Prim.Native.Nat.{ℕ, ◌-◌}
+use Prim.Native.Nat.{ℕ}
 use lib.ListN.{length}
 use Rattle.frame.proofs.Encode.{check-short}
 use Rattle.survey.specs.Pass.{lengths_at, settled_total}

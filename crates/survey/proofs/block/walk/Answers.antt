@@ -1,7 +1,6 @@
 -- The walk: what was read so far are the first frames of the scan.
 use mathlib.Core.Path.{sym, ◌∙◌}
 use native.Mathlib.Omega.{arith}
-use Prim.Native.Nat.{◌-◌}
 use Rattle.survey.proofs.HeadLaws.{taken-end, reached_pending, reached_more, ends_blank, ends_torn, ends_wrong}
 use Rattle.fetch.proofs.FrameReads.{read-inside}
 use Rattle.survey.proofs.Passing.{reached-none}

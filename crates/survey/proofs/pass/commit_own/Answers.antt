@@ -1,7 +1,6 @@
 -- A commit: the heads from here on do what the heads from `since` on did.
 use mathlib.Core.Path.{refl, sym, ap, ◌∙◌}
 use native.Mathlib.Omega.{arith}
-use Prim.Native.Nat.{◌-◌}
 use Rattle.frame.specs.Code.{head_len}
 use Rattle.survey.specs.Pass.{recommit}
 use Rattle.survey.proofs.Committing.{head-least, head-most, heads_on, heads_end}
