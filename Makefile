@@ -35,18 +35,15 @@ PROVING = Proving the library; from nothing this takes many minutes ($(LOG)).
 
 all: $(LIBRARY)
 
-$(OWN): $(SOURCES)
-	@mkdir -p target/staticlib
-	@echo "$(PROVING)" >&2
-	@(cd crates/grommetide && rt lib --cpu x86-64) > $(LOG) 2>&1 || { tail -n 30 $(LOG) >&2; exit 1; }
-	@cp crates/grommetide/out/libgrommetide.a $@
-
 # It makes $(OWN) too, in the same run.
 $(MODULE): $(SOURCES) scripts/keep-module
 	@mkdir -p target
 	@echo "$(PROVING)" >&2
 	@scripts/keep-module $@ > $(LOG) 2>&1 || { tail -n 30 $(LOG) >&2; exit 1; }
-	@touch $(OWN) $@
+	@touch $@
+
+$(OWN): $(MODULE)
+	@touch $@
 
 # Made anew each time, in a second: the words may be others.
 ifneq ($(TARGET),)
