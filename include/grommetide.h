@@ -177,7 +177,7 @@
  *     RISC-V 32                    memcpy, memset, __udivdi3
  *     Cortex-M3, Cortex-M4         __aeabi_memcpy, __aeabi_memcpy4, __aeabi_memcpy8, __aeabi_memset, __aeabi_memclr,
  *                                  __aeabi_memclr4, __aeabi_memclr8, __aeabi_uldivmod
- *     Cortex-M0                    these and __aeabi_lmul
+ *     Cortex-M0                    these, __aeabi_lmul and __aeabi_uidiv
  *     WebAssembly                  none
  *
  *   For x86-64 it is compiled under the System V ABI. It moves data through the SSE registers (xmm, SSE2), so whoever
@@ -189,15 +189,15 @@
  *   stack):
  *
  *                               x86-64   Cortex-M3
- *     grommetide_mount           3,584       3,584
- *     grommetide_fault           3,584       3,584
- *     grommetide_format          3,584       3,584
- *     grommetide_request         2,560       3,072
- *     grommetide_read              896         896
- *     grommetide_next              640         640
- *     grommetide_made            3,328       3,328
- *     grommetide_step            2,816       3,072
- *     grommetide_run             3,584       3,584
+ *     grommetide_mount           2,304       2,176
+ *     grommetide_fault           1,280       1,024
+ *     grommetide_format          1,024       1,408
+ *     grommetide_request         2,560       2,432
+ *     grommetide_read              640         512
+ *     grommetide_next              256         256
+ *     grommetide_made            2,560       2,560
+ *     grommetide_step            2,688       2,560
+ *     grommetide_run             3,072       2,944
  */
 #ifndef GROMMETIDE_H
 #define GROMMETIDE_H

@@ -9,7 +9,7 @@ fn main() {
     let archive = folder.join("libgrommetide.a");
     println!("cargo::rerun-if-changed={}", archive.display());
     if !archive.is_file() {
-        println!("cargo::error=target/staticlib/libgrommetide.a is missing; `rt staticlib grommetide` makes it");
+        println!("cargo::error=target/staticlib/libgrommetide.a is missing; `make` makes it");
     }
     println!("cargo::rustc-link-search=native={}", folder.display());
     println!("cargo::rustc-link-lib=static=grommetide");

@@ -54,6 +54,7 @@ const THUMB_1: &[&str] = &[
     "__aeabi_memcpy4",
     "__aeabi_memcpy8",
     "__aeabi_memset",
+    "__aeabi_uidiv",
     "__aeabi_uldivmod",
 ];
 

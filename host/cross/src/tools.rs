@@ -48,13 +48,10 @@ pub fn output(command: &mut Command) -> String {
 
 /// The folder of the kit's clang, ld.lld and llvm-ar, found as scripts/cross finds it.
 pub fn kit(tool: &str) -> PathBuf {
-    let home = env::var_os("RATTLE_HOME").map(PathBuf::from).unwrap_or_else(|| {
-        let path = env::var_os("PATH").expect("a PATH");
-        let rt = env::split_paths(&path).map(|folder| folder.join("rt")).find(|rt| rt.is_file());
-        let rt = rt.expect("rt is missing; README names the kit").canonicalize().expect("a path");
-        rt.ancestors().nth(2).expect("the kit's folder").to_path_buf()
-    });
-    home.join("on").join(env::consts::ARCH).join("toolchain/bin").join(tool)
+    let path = env::var_os("PATH").expect("a PATH");
+    let rt = env::split_paths(&path).map(|folder| folder.join("rt")).find(|rt| rt.is_file());
+    let rt = rt.expect("rt is missing; README names the kit").canonicalize().expect("a path");
+    rt.ancestors().nth(2).expect("the kit's folder").join("toolchain/bin").join(tool)
 }
 
 pub fn module() -> PathBuf {

@@ -94,15 +94,15 @@ fn compiled(folder: &Path, name: &str, text: &str) -> PathBuf {
     let (module, object) = (folder.join(format!("{name}.ll")), folder.join(format!("{name}.o")));
     fs::write(&module, text.replace(" \"target-cpu\"=\"x86-64\"", "")).expect("a file under target");
     let mut clang = Command::new(kit("clang"));
-    clang.args(["--target=thumbv6m-none-eabi", "-Wno-override-module", "-O2", "-x", "ir"]).arg(&module);
+    clang.args(["--target=thumbv6m-none-eabi", "-Wno-override-module", "-O2", "-mllvm", "-inline-threshold=4000"]);
+    clang.args(["-x", "ir"]).arg(&module);
     output(clang.arg("-c").arg("-o").arg(&object));
     object
 }
 
 /// The module as the kit makes it does not say that answers are extended to a register, which scripts/cross adds. Without
-/// that a Cortex-M0 gives back an answer with other bits above its byte, and a C caller would take it for another: compiled
-/// at -O2, the first step of all does. At -Os, as scripts/cross compiles, a thousand rounds show none in edition 2's module;
-/// only the added word promises so. With it the same module agrees at -O2 too.
+/// that a Cortex-M0 gives back an answer with other bits above its byte, and a C caller would take it for another. With the
+/// added word the same module agrees.
 #[test]
 fn an_answer_that_is_not_extended() {
     let (folder, text) = (scratch("wrong-answer"), text());
