@@ -26,7 +26,6 @@ use Rattle.fetch.proofs.Fetching.{in_block, pending_blank, pending_torn, pending
 use Rattle.wire.specs.declared.Answer.{Answer}
 use Rattle.wire.specs.declared.Answer.TheVariants.{Done, More, Refused}
 use Rattle.wire.specs.declared.Refusal.TheVariants as refusal
-use Rattle.wire.specs.declared.Parsed.TheVariants.{Malformed}
 use Rattle.board.specs.declared.Stage.{Stage}
 use Rattle.board.specs.declared.Stage.TheVariants.{Wipe, Open, Copy, Seal, Drop, Append, Close}
 use Rattle.board.specs.declared.Phase.{Phase}

@@ -7,7 +7,7 @@ use lib.ListN.{length}
 use Rattle.flash.specs.Flash.{apply, size_of, within}
 use Rattle.flash.proofs.Cases.{on_test}
 use Rattle.wire.specs.declared.Answer.{Answer}
-use Rattle.wire.specs.declared.Answer.TheVariants.{Done, More}
+use Rattle.wire.specs.declared.Answer.TheVariants.{Done}
 use Rattle.wire.specs.declared.Refusal.TheVariants as refusal
 use Rattle.board.specs.declared.Stage.{Stage}
 use Rattle.board.specs.declared.Phase.{Phase}

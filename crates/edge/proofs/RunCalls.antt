@@ -17,7 +17,7 @@ use Rattle.board.specs.declared.Stage.{Stage}
 use Rattle.board.specs.declared.Phase.{Phase}
 use Rattle.board.specs.declared.Phase.TheVariants.{Unmounted, Idle, Busy}
 use Rattle.board.specs.declared.Record.{Record}
-use Rattle.board.specs.Record.{Out, out, refuse, answer_in, answer_of}
+use Rattle.board.specs.Record.{Out, refuse, answer_in, answer_of}
 use Rattle.board.specs.Step.{action, advance, same_shape, stepped, step_on}
 use Rattle.board.specs.Exec.{step}
 use Rattle.board.specs.Drive.{Drove, run_from, run_on_of}

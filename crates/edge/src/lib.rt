@@ -1,4 +1,6 @@
 // What the library for C does inside its calls: the record as bytes, a flash step in numbers.
+#![tactic(auto)]
+
 mod next;
 mod steps;
 

@@ -1,4 +1,6 @@
 // The library for C: include/grommetide.h. The record crosses as bytes.
+#![tactic(auto)]
+
 mod next;
 mod steps;
 
