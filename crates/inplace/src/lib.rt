@@ -1,4 +1,6 @@
 // The store's calls over a board record that is lent and changed in place.
+#![tactic(auto)]
+
 ghost use Rattle.std.specs.Prelude.{◌≡◌};
 ghost use Rattle.board.specs.Record.{Out};
 ghost use Rattle.board.specs.Step.{step_on};

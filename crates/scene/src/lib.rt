@@ -1,4 +1,6 @@
 // What the programs that run the store share: a call with its steps, and a line that says what it came to.
+#![tactic(auto)]
+
 ghost use Rattle.std.specs.Prelude.{◌≡◌, ◌∷◌, [], ◌++◌, ◌≤◌, length, take, drop};
 ghost use Rattle.scene.specs.Runs.{run_on_of, new_bench, image_of, bench_of, call_on, fresh, ask_on, put_message};
 ghost use Rattle.board.specs.Mount.{mount_on, format_on};

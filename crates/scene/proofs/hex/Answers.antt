@@ -1,5 +1,4 @@
 -- `scene::hex` is safe and ends. The measure is what is left of the bytes.
-use Prim.Native.Nat.{◌-◌}
 use native.Mathlib.Omega.{arith}
 use Rattle.scene.proofs.hex.Goals as goal
 

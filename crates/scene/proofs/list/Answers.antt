@@ -1,5 +1,4 @@
 -- `scene::list` is safe and ends. The measure is how many ids are left.
-use Prim.Native.Nat.{◌-◌}
 use native.Mathlib.Omega.{arith}
 use Rattle.scene.proofs.list.Goals as goal
 

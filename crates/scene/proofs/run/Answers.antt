@@ -1,6 +1,5 @@
 -- `scene::run` does a job's steps, at most so many. The measure is how many it may still do.
 use mathlib.Core.Path.{refl, ◌∙◌}
-use Prim.Native.Nat.{◌-◌}
 use native.Mathlib.Omega.{arith}
 use native.Mathlib.Nat.{sub-zero}
 use borrow.Author.Tests.{ne_eqb}
