@@ -1,4 +1,6 @@
 // Document 01's bench rows, run on the code. The file stdout has what they must print.
+#![tactic(auto)]
+
 use board::Record;
 use frame::Host;
 use job::Outcome;

@@ -1,6 +1,8 @@
 // A tour of what document 01's rows leave out: every refusal, aborts, hosts, transfers, cuts and the last times. The file stdin
 // is its script: the calls, a line each, and the sums as comments. The file stdout has what it must print, worked out from
 // documents 01 and 02.
+#![tactic(auto)]
+
 ghost use Rattle.std.specs.Prelude.{◌<◌};
 
 use lines::{Args, after, expected, find, message, numbers};

@@ -1,5 +1,4 @@
 -- `tour::script` is safe and ends. The measure is what is left of the script.
-use Prim.Native.Nat.{◌-◌}
 use native.Mathlib.Omega.{arith}
 use Rattle.tour.proofs.script.Goals as goal
 

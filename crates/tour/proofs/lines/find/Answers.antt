@@ -1,5 +1,4 @@
 -- `tour::lines::find` is safe and ends. The measure is what is left of the bytes.
-use Prim.Native.Nat.{◌-◌}
 use native.Mathlib.Omega.{arith}
 use Rattle.tour.proofs.lines.find.Goals as goal
 

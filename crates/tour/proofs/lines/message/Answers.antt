@@ -1,5 +1,4 @@
 -- `tour::lines::message` is safe and ends. The measure is what is left of the bytes.
-use Prim.Native.Nat.{◌-◌}
 use native.Mathlib.Omega.{arith}
 use Rattle.tour.proofs.lines.message.Goals as goal
 
