@@ -1,4 +1,5 @@
 // 1,159 CRCs. The file stdout has what a second program, scripts/crcs, says of the same inputs.
+#![tactic(auto)]
 
 // Sixteen in a line.
 fn show(at: usize, crc: u32) {

@@ -1,5 +1,4 @@
 -- The loop ends.
-use Prim.Native.Nat.{◌-◌}
 use native.Mathlib.Omega.{arith}
 use Rattle.crcs.proofs.mixed.Goals as goal
 
