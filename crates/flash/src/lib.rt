@@ -5,6 +5,10 @@ ghost use Rattle.std.specs.Prelude.{◌≡◌, ◌+◌, ◌*◌, ◌-◌, ◌≤
 ghost use Rattle.flash.specs.Bytes.{all_ff};
 ghost use Rattle.flash.specs.Flash.{size_in, block, program_at, erase_block};
 
+mod slices;
+
+pub use slices::{front, get_or, rest, set_at};
+
 // The most blocks that an image has.
 pub const MAX_BLOCKS: usize = 16;
 
@@ -22,7 +26,7 @@ pub fn size_of(blocks: u8, len: usize) -> usize
 pub fn byte_at(bytes: &[u8], i: usize) -> u8
     ensures { result ≡ get_or bytes.now i 0 }
 {
-    if i < bytes.len() { bytes[i] } else { 0 }
+    get_or(bytes, i, 0)
 }
 
 // Eight bytes from a place on are 0xFF: one test of what they have in common.
