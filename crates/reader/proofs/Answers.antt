@@ -9,15 +9,15 @@ use native.Mathlib.Nat.{zero-add, add-zero}
 use Rattle.std.specs.Prelude.{Option, Some, None}
 use Rattle.std.specs.Option.{option_or}
 use lib.Dec.{eqb, leb}
-use borrow.Author.Tests.{leb-true, le-leb, lt-leb, eqb-true, eq-eqb}
+use borrow.Author.Tests.{le-leb, lt-leb, eq-eqb}
 use lib.ListN.{length, get_or, drop}
 use Rattle.flash.specs.Bytes.{all_ff}
 use Rattle.flash.proofs.Cases.{on_test, clash, and_both, and_no-left, and_no_right, or_right}
-use Rattle.frame.specs.Frame.{Frame, reset, id_max, check_len, put_len, settled_len, ClosedLength}
+use Rattle.frame.specs.Frame.{Frame, check_len, put_len, settled_len, ClosedLength}
 use Rattle.frame.specs.Reader.{Read, blank, whole, torn, wrong, fault, fault_at, Slot, fits, layout_of, laid, has_length, only_settled}
 use Rattle.frame.specs.Reader.{Match, all, part, misfit, match, decode, of_match, being_closed, read_laid, read_frame}
 use Rattle.frame.specs.Code.{head_of, read_of}
-use Rattle.reader.specs.Misfits.{misfit_at, misfit_from}
+use Rattle.reader.specs.Misfits.{laid_misfit, misfit_at, misfit_from}
 use Rattle.frame.specs.declared.Edition.{Edition}
 use Rattle.frame.specs.declared.Fault.{Fault}
 use Rattle.frame.specs.declared.Field.TheVariants as field
@@ -25,7 +25,7 @@ use Rattle.frame.specs.declared.FrameRead.{FrameRead}
 use Rattle.frame.specs.declared.FrameRead.TheVariants as read
 use Rattle.reader.specs.declared.fitting.Misfit.{Misfit}
 use Rattle.frame.proofs.Fit.{match-go, match-part, match-misfit}
-use Rattle.frame.proofs.Own.{only_yes, SomeLength, length-of, length_inv}
+use Rattle.frame.proofs.Own.{only_yes, SomeLength, length_inv}
 use Rattle.frame.proofs.Layouts.{length_slots}
 use Rattle.frame.proofs.Exact.{length_fits, read_ff, read-laid, read_being, read_short}
 use Rattle.reader.proofs.Misfits.{one-fits, one_fails}
@@ -95,7 +95,7 @@ module _ (e : Edition) (next n k : ℕ) (t : List ℕ) (p : n ≡ get_or t 0 0) 
       ∙ length_slots e next t (ap (has_length e next) (sym p) ∙ l) ∙ sym p
 
   pub laid-read : read_of (read_laid e next 0 n k t)
-      ≡ laid_read (layout_of e next n k).tears n (decode e k n t) t (misfit_from 0 (laid n (layout_of e next n k) t) t)
+      ≡ laid_read (layout_of e next n k).tears n (decode e k n t) t (laid_misfit n (layout_of e next n k) t)
   laid-read = read-from (layout_of e next n k).tears n (decode e k n t) t 0 (laid n (layout_of e next n k) t) t refl (omega (arith, size_is))
 
 -- ---- the steps of the reader
@@ -118,7 +118,7 @@ module _ (e : Edition) (next n : ℕ) (t : List ℕ) (p : n ≡ get_or t 0 0) (a
   -- and by its misfit
   pub front_match : n ≤ length t → has_length e next n ≡ true → being_closed e n t ≡ false
       → read_of (read_frame e next 0 t)
-      ≡ laid_read (layout_of e next n (get_or t 2 0)).tears n (decode e (get_or t 2 0) n t) t (misfit_from 0 (laid n (layout_of e next n (get_or t 2 0)) t) t)
+      ≡ laid_read (layout_of e next n (get_or t 2 0)).tears n (decode e (get_or t 2 0) n t) t (laid_misfit n (layout_of e next n (get_or t 2 0)) t)
   front_match h l c = front_laid (get_or t 2 0) refl h l c ∙ laid-read e next n (get_or t 2 0) t p refl l h
 
   pub front_long : length t < n → read_of (read_frame e next 0 t) ≡ read.Wrong (fault field.Length 0)
@@ -133,40 +133,6 @@ module _ (e : Edition) (next n : ℕ) (t : List ℕ) (p : n ≡ get_or t 0 0) (a
 
 -- ---- lengths
 
-module _ (e : Edition) (next n : ℕ) where
-  same_length : (b : Bool) → (b ≡ true → SomeLength e next n) → (SomeLength e next n → b ≡ true) → b ≡ has_length e next n
-  same_length true f g = sym (length-of e next n (f refl))
-  same_length false f g = sym (on_test (has_length e next n) (λ q. clash true refl (sym (g (length_inv e next n q)))) (λ q. q))
-
-  pub is_reset : (r : ℕ) → r ≡ check_len e → n ≡ 5 + r → true ≡ has_length e next n
-  is_reset r q h = same_length true (λ b. inl (inl (omega arith))) (λ s. refl)
-
-  pub is-end : (r : ℕ) → r ≡ check_len e → n ≡ 6 + r → true ≡ has_length e next n
-  is-end r q h = same_length true (λ b. inl (inr (inl (omega arith)))) (λ s. refl)
-
-  pub is-put : (r : ℕ) → r ≡ check_len e → 8 + r ≤ n → leb n (248 + r) ≡ has_length e next n
-  is-put r q h =
-      same_length (leb n (248 + r)) (λ b. inl (inr (inr (omega arith, omega (arith, leb-true n (248 + r) b))))) (λ s. le-leb n (248 + r) (most s))
-    where
-      most : SomeLength e next n → n ≤ 248 + r
-      most (inl (inl s)) = omega arith
-      most (inl (inr (inl s))) = omega arith
-      most (inl (inr (inr s))) = omega arith
-      most (inr s) = omega arith
-
-  other : (r : ℕ) → r ≡ check_len e → (n ≡ 5 + r → ⊥) → (n ≡ 6 + r → ⊥) → n < 8 + r → SomeLength e next n → (next ≤ id_max) × (n ≡ settled_len e 0)
-  other r q z a b (inl (inl s)) = absurd (z (omega arith))
-  other r q z a b (inl (inr (inl s))) = absurd (a (omega arith))
-  other r q z a b (inl (inr (inr s))) = absurd (omega arith)
-  other r q z a b (inr s) = s
-
-  pub is_none : (r : ℕ) → r ≡ check_len e → (n ≡ 5 + r → ⊥) → (n ≡ 6 + r → ⊥) → n < 8 + r → id_max < next → false ≡ has_length e next n
-  is_none r q z a b h = same_length false (λ y. clash true refl (sym y)) (λ s. let y : next ≤ id_max = (other r q z a b s).0 in absurd (omega arith))
-
-  pub is-settled : (r : ℕ) → r ≡ check_len e → (n ≡ 5 + r → ⊥) → (n ≡ 6 + r → ⊥) → n < 8 + r → next ≤ id_max → eqb n (7 + r) ≡ has_length e next n
-  is-settled r q z a b h =
-      same_length (eqb n (7 + r)) (λ y. inr (h, omega (arith, eqb-true n (7 + r) y))) (λ s. eq-eqb n (7 + r) (omega (arith, (other r q z a b s).1)))
-
 pub host-length : (e : Edition) (next n k : ℕ) → only_settled e next n k ≡ false → has_length e next n ≡ true → ClosedLength e n
 host-length e next n k s q = go (length_inv e next n q)
   where
@@ -180,17 +146,6 @@ pub put-least : (e : Edition) (n r : ℕ) → r ≡ check_len e → (n ≡ 5 + r
 put-least e n r q a b (inl h) = absurd (a (omega arith))
 put-least e n r q a b (inr (inl h)) = absurd (b (omega arith))
 put-least e n r q a b (inr (inr h)) = h.0
-
--- ---- heads
-
-pub decode-high : (e : Edition) (k n : ℕ) (t : List ℕ) → 6 ≤ k → decode e k n t ≡ reset
-decode-high e (suc (suc (suc (suc (suc (suc k)))))) n t h = refl
-decode-high e zero n t h = absurd (omega arith)
-decode-high e (suc zero) n t h = absurd (omega arith)
-decode-high e (suc (suc zero)) n t h = absurd (omega arith)
-decode-high e (suc (suc (suc zero))) n t h = absurd (omega arith)
-decode-high e (suc (suc (suc (suc zero)))) n t h = absurd (omega arith)
-decode-high e (suc (suc (suc (suc (suc zero))))) n t h = absurd (omega arith)
 
 -- ---- the same at an offset
 
@@ -228,7 +183,8 @@ shift_read_lem e next at t =
     ∙ ap (λ (s : ℕ). read.Wrong (fault field.Length s)) (sym (add-zero at))
     ∙ ap (λ (r : Read). shift_read at (read_of r)) (sym (read_short e next 0 t a b))))
 
-pub moved : (e : Edition) (next at : ℕ) (t u : List ℕ) (r : FrameRead) → u ≡ t → r ≡ read_of (read_frame e next 0 u) → shift_read at r ≡ read_of (read_frame e next at t)
+pub moved : (e : Edition) (next at : ℕ) (t u : List ℕ) (r : FrameRead) → u ≡ t → r ≡ read_of (read_frame e next 0 u)
+    → shift_read at r ≡ read_of (read_frame e next at t)
 moved e next at t u r p q = ap (shift_read at) (q ∙ ap (λ (x : List ℕ). read_of (read_frame e next 0 x)) p) ∙ sym (shift_read_lem e next at t)
 
 -- back from what the code has of a fault

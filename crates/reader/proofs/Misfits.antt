@@ -6,19 +6,18 @@ use Prim.Native.Nat.{ℕ, zero, suc, ◌+◌, ◌-◌, ◌/◌, ◌%◌, ◌≤�
 use native.Mathlib.Omega.{arith}
 use Rattle.std.specs.Prelude.{Option, Some, None}
 use Rattle.std.specs.Option.{option_or}
-use lib.Dec.{eqb, leb}
+use lib.Dec.{eqb}
 use lib.ListN.{length, get_or, take, drop}
 use lib.Seq.{drop-cons}
 use native.Mathlib.Nat.{add-zero}
-use borrow.Author.Tests.{lt-leb}
 use Rattle.flash.specs.Bytes.{Bytes}
-use Rattle.flash.proofs.Cases.{and_no-left, and_no_right, between-yes}
+use Rattle.flash.proofs.Cases.{between-yes}
 use Rattle.flash.proofs.Blank.{byte_at}
 use Rattle.crc.specs.Crc.{crc32_of}
 use Rattle.frame.specs.Frame.{host_max, finish, check_len, put_len, delete_len, end_len, settled_len, closed_len, reset_len}
-use Rattle.frame.specs.Reader.{Slot, slot, fits, value_slots, Layout, front_slots, seal_slots, laid, last_kind, change_layout, end_layout, settled_layout}
+use Rattle.frame.specs.Reader.{Slot, slot, fits, value_slots, Layout, front_slots, seal_slots, last_kind, change_layout, end_layout, settled_layout}
 use Rattle.frame.specs.Reader.{closed_layout, reset_layout}
-use Rattle.reader.specs.Misfits.{misfit_at, one_misfit, misfit_from, front_misfit}
+use Rattle.reader.specs.Misfits.{seal_misfit, laid_misfit, misfit_at, one_misfit, misfit_from, front_misfit}
 use Rattle.frame.specs.declared.Edition.{Edition}
 use Rattle.frame.specs.declared.Edition.TheVariants as edition
 use Rattle.frame.specs.declared.Field.TheVariants as field
@@ -44,12 +43,6 @@ one_fails o p b e = rw (e, one_misfit)
 
 pub one-between : (o : ℕ) (p : Slot) (b : ℕ) → p.lo ≤ b → b ≤ p.hi → one_misfit o p b ≡ None
 one-between o p b h k = one-fits o p b (between-yes p.lo b p.hi h k)
-
-pub one_below : (o : ℕ) (p : Slot) (b : ℕ) → b < p.lo → one_misfit o p b ≡ misfit_at o p
-one_below o p b h = one_fails o p b (and_no-left (leb p.lo b) (leb b p.hi) (lt-leb p.lo b h))
-
-pub one-above : (o : ℕ) (p : Slot) (b : ℕ) → p.hi < b → one_misfit o p b ≡ misfit_at o p
-one-above o p b h = one_fails o p b (and_no_right (leb p.lo b) (leb b p.hi) (lt-leb b p.hi h))
 
 -- ---- byte after byte: x is the misfit before them
 
@@ -124,9 +117,6 @@ second_is m c t q h =
 
 -- ---- the tests of each layout, up to its seal
 
-abbrev pub seal_misfit : Edition → ℕ → List ℕ → Option Misfit
-seal_misfit e m t = misfit_from m (seal_slots e m (take m t)) (drop m t)
-
 length-value : (o n : ℕ) → length (value_slots o n) ≡ n
 length-value o zero = refl
 length-value o (suc n) = ap suc (length-value (suc o) n)
@@ -134,7 +124,7 @@ length-value o (suc n) = ap suc (length-value (suc o) n)
 -- where the seal is
 module _ (e : Edition) (n : ℕ) (t : List ℕ) (q : n ≡ get_or t 0 0) (hi : n ≤ length t) (bs : Bytes t) where
   pub change_is : put_len e 0 ≤ n
-      → misfit_from 0 (laid n (change_layout e n) t) t
+      → laid_misfit n (change_layout e n) t
       ≡ option_or (option_or (option_or (front_misfit 1 (last_kind (eqb n (delete_len e))) t) (one_misfit 4 (slot field.Host 4 0 host_max) (get_or t 4 0)))
       (one_misfit 6 (slot field.Id 5 0 0) (get_or t 6 0))) (seal_misfit e (n - 1 - check_len e) t)
   change_is lo =
@@ -155,7 +145,7 @@ module _ (e : Edition) (n : ℕ) (t : List ℕ) (q : n ≡ get_or t 0 0) (hi : n
       ∙ ap (option_or (option_or y (one_misfit 6 high (get_or t 6 0)))) (value-is 7 (n - put_len e 0) m ps t bs (omega arith) (omega arith))
 
   pub end_is : n ≡ end_len e
-      → misfit_from 0 (laid n (end_layout e) t) t
+      → laid_misfit n (end_layout e) t
       ≡ option_or (option_or (front_misfit 3 4 t) (one_misfit 4 (slot field.Host 4 0 host_max) (get_or t 4 0))) (seal_misfit e 5 t)
   end_is s =
       let ps : List Slot = seal_slots e 5 (take 5 t) in
@@ -163,7 +153,7 @@ module _ (e : Edition) (n : ℕ) (t : List ℕ) (q : n ≡ get_or t 0 0) (hi : n
       ∙ then (front_misfit 3 4 t) 4 5 (slot field.Host 4 0 host_max) ps t (omega arith) (omega arith)
 
   pub settled_is : (next : ℕ) → settled_len e 0 ≤ n
-      → misfit_from 0 (laid n (settled_layout e next n) t) t
+      → laid_misfit n (settled_layout e next n) t
       ≡ option_or (option_or (option_or (front_misfit 5 5 t) (one_misfit 4 (slot field.Id 4 next 255) (get_or t 4 0)))
       (one_misfit 5 (slot field.Id 4 0 0) (get_or t 5 0))) (seal_misfit e (n - 1 - check_len e) t)
   settled_is next lo =
@@ -183,7 +173,7 @@ module _ (e : Edition) (n : ℕ) (t : List ℕ) (q : n ≡ get_or t 0 0) (hi : n
       ∙ ap (option_or (option_or y (one_misfit 5 high (get_or t 5 0)))) (value-is 6 (n - settled_len e 0) m ps t bs (omega arith) (omega arith))
 
   pub closed_is : closed_len 0 ≤ n
-      → misfit_from 0 (laid n (closed_layout n) t) t
+      → laid_misfit n (closed_layout n) t
       ≡ option_or (front_misfit 0 0 t) (one_misfit (n - 1) (slot field.Finish (n - 1) finish finish) (get_or t (n - 1) 0))
   closed_is lo =
       let l : Layout = closed_layout n in
@@ -194,5 +184,5 @@ module _ (e : Edition) (n : ℕ) (t : List ℕ) (q : n ≡ get_or t 0 0) (hi : n
       ∙ front_is n l ps t q (omega arith)
       ∙ ap (option_or (front_misfit 0 0 t)) (value-is 4 (n - closed_len 0) m ps t bs (omega arith) (omega arith) ∙ first-is m t (omega arith))
 
-  pub reset_is : n ≡ reset_len e → misfit_from 0 (laid n (reset_layout e) t) t ≡ option_or (front_misfit 7 7 t) (seal_misfit e 4 t)
+  pub reset_is : n ≡ reset_len e → laid_misfit n (reset_layout e) t ≡ option_or (front_misfit 7 7 t) (seal_misfit e 4 t)
   reset_is s = front_is n (reset_layout e) (seal_slots e 4 (take 4 t)) t q (omega arith)

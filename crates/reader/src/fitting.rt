@@ -1,10 +1,9 @@
 // The first byte that does not fit a layout.
-ghost use Rattle.std.specs.Prelude.{◌≡◌, ◌+◌, ◌≤◌, ◌<◌, eqb, length, get_or, take, drop, true};
+ghost use Rattle.std.specs.Prelude.{◌≡◌, ◌+◌, ◌≤◌, ◌<◌, eqb, length, get_or, true};
 ghost use Rattle.frame.specs.declared.Field.TheVariants.{Host};
 ghost use Rattle.frame.specs.Frame.{host_max, body_at, put_len, delete_len, end_len, settled_len, closed_len, reset_len, kind_at, ClosedLength, check_len};
-ghost use Rattle.frame.specs.Reader.{has_length, layout_of, slot, change_layout, end_layout, settled_layout, closed_layout, reset_layout, host_layout};
-ghost use Rattle.frame.specs.Reader.{seal_slots, laid, last_kind};
-ghost use Rattle.reader.specs.Misfits.{one_misfit, misfit_from, front_misfit};
+ghost use Rattle.frame.specs.Reader.{has_length, layout_of, slot, change_layout, end_layout, settled_layout, closed_layout, reset_layout, host_layout, last_kind};
+ghost use Rattle.reader.specs.Misfits.{one_misfit, front_misfit, seal_misfit, laid_misfit};
 
 use crate::front::Front;
 use crate::lengths::only_settled;
@@ -65,7 +64,7 @@ impl Front<'_> {
     // The check and the finish byte, after m bytes.
     fn seal_misfit(&self, m: usize) -> Option<Misfit>
         requires { m + check_len self.now.edition < length self.now.bytes.now }
-        ensures { result ≡ misfit_from m (seal_slots self.now.edition m (take m self.now.bytes.now)) (drop m self.now.bytes.now) }
+        ensures { result ≡ seal_misfit self.now.edition m self.now.bytes.now }
     {
         match self.edition {
             Edition::First => self.exact(m, FINISH, Field::Finish, m),
@@ -94,7 +93,7 @@ impl Front<'_> {
     // A put or a delete.
     fn change_misfit(&self) -> Option<Misfit>
         requires { put_len self.now.edition 0 ≤ self.now.len }
-        ensures { result ≡ misfit_from 0 (laid self.now.len (change_layout self.now.edition self.now.len) self.now.bytes.now) self.now.bytes.now }
+        ensures { result ≡ laid_misfit self.now.len (change_layout self.now.edition self.now.len) self.now.bytes.now }
     {
         self.front_misfit(1, self.last_kind())
             .or(self.host_byte())
@@ -105,7 +104,7 @@ impl Front<'_> {
     // A commit or an abort.
     fn end_misfit(&self) -> Option<Misfit>
         requires { self.now.len ≡ end_len self.now.edition }
-        ensures { result ≡ misfit_from 0 (laid self.now.len (end_layout self.now.edition) self.now.bytes.now) self.now.bytes.now }
+        ensures { result ≡ laid_misfit self.now.len (end_layout self.now.edition) self.now.bytes.now }
     {
         self.front_misfit(3, 4)
             .or(self.host_byte())
@@ -115,7 +114,7 @@ impl Front<'_> {
     // A settled frame whose id is at least next.
     fn settled_misfit(&self, next: usize) -> Option<Misfit>
         requires { settled_len self.now.edition 0 ≤ self.now.len }
-        ensures { result ≡ misfit_from 0 (laid self.now.len (settled_layout self.now.edition next self.now.len) self.now.bytes.now) self.now.bytes.now }
+        ensures { result ≡ laid_misfit self.now.len (settled_layout self.now.edition next self.now.len) self.now.bytes.now }
     {
         self.front_misfit(5, 5)
             .or(self.test(BODY_AT, next, ID_MAX, Field::Id, BODY_AT))
@@ -126,7 +125,7 @@ impl Front<'_> {
     // A closed frame: its check is part of what it ignores.
     fn closed_misfit(&self) -> Option<Misfit>
         requires { closed_len 0 ≤ self.now.len }
-        ensures { result ≡ misfit_from 0 (laid self.now.len (closed_layout self.now.len) self.now.bytes.now) self.now.bytes.now }
+        ensures { result ≡ laid_misfit self.now.len (closed_layout self.now.len) self.now.bytes.now }
     {
         let last = self.len as usize - 1;
         self.front_misfit(0, 0)
@@ -136,7 +135,7 @@ impl Front<'_> {
     // A reset.
     fn reset_misfit(&self) -> Option<Misfit>
         requires { self.now.len ≡ reset_len self.now.edition }
-        ensures { result ≡ misfit_from 0 (laid self.now.len (reset_layout self.now.edition) self.now.bytes.now) self.now.bytes.now }
+        ensures { result ≡ laid_misfit self.now.len (reset_layout self.now.edition) self.now.bytes.now }
     {
         self.front_misfit(7, 7).or(self.seal_misfit(BODY_AT))
     }
@@ -144,7 +143,7 @@ impl Front<'_> {
     // A frame of kinds 1 to 4 or 7, by its length.
     fn host_misfit(&self) -> Option<Misfit>
         requires { ClosedLength self.now.edition self.now.len }
-        ensures { result ≡ misfit_from 0 (laid self.now.len (host_layout self.now.edition self.now.len) self.now.bytes.now) self.now.bytes.now }
+        ensures { result ≡ laid_misfit self.now.len (host_layout self.now.edition self.now.len) self.now.bytes.now }
     {
         let check = check_len(self.edition);
         if self.len == RESET_LEN + check {
@@ -159,7 +158,7 @@ impl Front<'_> {
     // The first byte that does not fit the layout of its length and kind.
     pub fn layout_misfit(&self, next: usize) -> Option<Misfit>
         requires { has_length self.now.edition next self.now.len ≡ true }
-        ensures { result ≡ misfit_from 0 (laid self.now.len (layout_of self.now.edition next self.now.len (get_or self.now.bytes.now kind_at 0)) self.now.bytes.now) self.now.bytes.now }
+        ensures { result ≡ laid_misfit self.now.len (layout_of self.now.edition next self.now.len (get_or self.now.bytes.now kind_at 0)) self.now.bytes.now }
     {
         let kind = self.kind();
         if only_settled(self.edition, next, self.len, kind) {

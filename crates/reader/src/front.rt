@@ -1,5 +1,6 @@
 // The front of a block's rest: where a frame may be.
 ghost use Rattle.std.specs.Prelude.{ℕ, ◌≡◌, ◌≤◌, ◌<◌, length, get_or, MatchOption};
+ghost use Rattle.frame.specs.Frame.{kind_at};
 
 use flash::byte_at;
 use frame::{Edition, KIND_AT};
@@ -33,7 +34,7 @@ impl<'a> Front<'a> {
 
     // The low byte of the kind.
     pub fn kind(&self) -> u8
-        ensures { result ≡ get_or self.now.bytes.now 2 0 }
+        ensures { result ≡ get_or self.now.bytes.now kind_at 0 }
     {
         byte_at(self.bytes, KIND_AT)
     }

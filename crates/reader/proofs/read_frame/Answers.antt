@@ -19,7 +19,8 @@ returns-then-is_whole c =
     let bs = bytes_drop c.args.at c.args.block.now (bytes_of c.args.block.now (λ i. omega (arith, c.type_inv.block i))) in
     rw (c.head.ensures, c.rest-bytes.ensures)
     (sym (shift_read_lem c.args.edition c.args.next c.args.at u
-    ∙ ap (shift_read c.args.at) (whole-read c.args.edition c.args.next u bs (ap (is_whole c.args.edition c.args.next) (sym c.rest-bytes.ensures) ∙ sym c.is_whole.ensures ∙ c.if-is_whole.true))))
+    ∙ ap (shift_read c.args.at) (whole-read c.args.edition c.args.next u bs
+    (ap (is_whole c.args.edition c.args.next) (sym c.rest-bytes.ensures) ∙ sym c.is_whole.ensures ∙ c.if-is_whole.true))))
 
 pub overflow_add-result : goal.overflow_add-result
 overflow_add-result c =
@@ -32,9 +33,11 @@ overflow_add-result c =
 pub returns-in-Wrong : goal.returns-in-Wrong
 returns-in-Wrong c =
     ap (shift_read c.args.at) (sym c.in-Wrong.is)
-    ∙ moved c.args.edition c.args.next c.args.at (drop c.args.at c.args.block.now) c.rest-bytes.result.now c.read_front.result c.rest-bytes.ensures c.read_front.ensures
+    ∙ moved c.args.edition c.args.next c.args.at (drop c.args.at c.args.block.now) c.rest-bytes.result.now c.read_front.result
+    c.rest-bytes.ensures c.read_front.ensures
 
 pub returns-in_default : goal.returns-in_default
 returns-in_default c =
     sym (shift_other c.args.at c.read_front.result c.in_default.not-Wrong)
-    ∙ moved c.args.edition c.args.next c.args.at (drop c.args.at c.args.block.now) c.rest-bytes.result.now c.read_front.result c.rest-bytes.ensures c.read_front.ensures
+    ∙ moved c.args.edition c.args.next c.args.at (drop c.args.at c.args.block.now) c.rest-bytes.result.now c.read_front.result
+    c.rest-bytes.ensures c.read_front.ensures

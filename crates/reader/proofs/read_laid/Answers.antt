@@ -18,7 +18,8 @@ use Rattle.reader.proofs.read_laid.Goals as goal
 pub returns-then-being_closed : goal.returns-then-being_closed
 returns-then-being_closed c =
     sym (front_being c.args.front.now.edition c.args.next c.args.front.now.len c.args.front.now.bytes.now c.args.front.now.first c.requires.1
-    c.args.front.now.within c.requires.0 (sym c.being_closed.ensures ∙ c.if-being_closed.true))
+    c.args.front.now.within c.requires.0
+    (sym c.being_closed.ensures ∙ c.if-being_closed.true))
 
 pub returns-in-None : goal.returns-in-None
 returns-in-None c =
@@ -26,7 +27,8 @@ returns-in-None c =
     let n : ℕ = c.args.front.now.len in
     let t : List ℕ = c.args.front.now.bytes.now in
     let k : ℕ = get_or t 2 0 in
-    sym (front_match e c.args.next n t c.args.front.now.first c.requires.1 c.args.front.now.within c.requires.0 (sym c.being_closed.ensures ∙ c.if-being_closed.false)
+    sym (front_match e c.args.next n t c.args.front.now.first c.requires.1 c.args.front.now.within c.requires.0
+    (sym c.being_closed.ensures ∙ c.if-being_closed.false)
     ∙ ap (laid_read (layout_of e c.args.next n k).tears n (decode e k n t) t) (sym c.layout_misfit.ensures ∙ c.in-None.is)
     ∙ ap (λ (x : ℕ). read.Whole (head_of (decode e k x t))) c.args.front.now.first ∙ ap read.Whole (sym c.head.ensures))
 
@@ -36,7 +38,8 @@ returns-then-is_blank c =
     let n : ℕ = c.args.front.now.len in
     let t : List ℕ = c.args.front.now.bytes.now in
     let k : ℕ = get_or t 2 0 in
-    sym (front_match e c.args.next n t c.args.front.now.first c.requires.1 c.args.front.now.within c.requires.0 (sym c.being_closed.ensures ∙ c.if-being_closed.false)
+    sym (front_match e c.args.next n t c.args.front.now.first c.requires.1 c.args.front.now.within c.requires.0
+    (sym c.being_closed.ensures ∙ c.if-being_closed.false)
     ∙ ap₂ (λ (b : Bool) (m : Option Misfit). laid_read b n (decode e k n t) t m)
     (sym c.tears.ensures ∙ c.if-tears.true) (sym c.layout_misfit.ensures ∙ c.in-Some.is)
     ∙ ap (λ (x : Bool). cut_off_of true x n c.in-Some.misfit.fault) (ap all_ff (sym c.rest.ensures) ∙ sym c.is_blank.ensures ∙ c.if-is_blank.true))
