@@ -55,7 +55,7 @@ impl Front<'_> {
     }
 
     // The host of a put, a delete, a commit or an abort.
-    fn host_byte(&self) -> Option<Misfit>
+    fn test_host(&self) -> Option<Misfit>
         ensures { result ≡ one_misfit body_at (slot Host body_at 0 host_max) (get_or self.now.bytes.now body_at 0) }
     {
         self.test(BODY_AT, 0, HOST_MAX, Field::Host, BODY_AT)
@@ -96,7 +96,7 @@ impl Front<'_> {
         ensures { result ≡ laid_misfit self.now.len (change_layout self.now.edition self.now.len) self.now.bytes.now }
     {
         self.front_misfit(1, self.last_kind())
-            .or(self.host_byte())
+            .or(self.test_host())
             .or(self.exact(ID_HIGH, 0, Field::Id, ID_AT))
             .or(self.seal_misfit((self.len - 1 - check_len(self.edition)) as usize))
     }
@@ -107,7 +107,7 @@ impl Front<'_> {
         ensures { result ≡ laid_misfit self.now.len (end_layout self.now.edition) self.now.bytes.now }
     {
         self.front_misfit(3, 4)
-            .or(self.host_byte())
+            .or(self.test_host())
             .or(self.seal_misfit(BODY_AT + 1))
     }
 

@@ -12,7 +12,7 @@ returns c =
       c.or.ensures,
       c.front_misfit.ensures,
       c.last_kind.ensures,
-      c.host_byte.ensures,
+      c.test_host.ensures,
       c.exact.ensures,
       c.seal_misfit.ensures,
       c.check_len.ensures,
