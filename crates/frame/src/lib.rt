@@ -10,15 +10,15 @@ mod bytes;
 pub use bytes::encode_frame;
 
 // A host's number: the port that a message came in by.
-#[derive(Clone, Copy)]
+#[derive(Clone, Copy, PartialEq, Eq)]
 pub struct Host(pub u8);
 
 // An object's number. Neither number may ever stand in for the other.
-#[derive(Clone, Copy)]
+#[derive(Clone, Copy, PartialEq, Eq)]
 pub struct ObjectId(pub u16);
 
 // The fields of a frame and of a block's header, by which a fault is told.
-#[derive(Clone, Copy)]
+#[derive(Clone, Copy, PartialEq, Eq)]
 pub enum Field {
     Length,
     Kind,
@@ -32,14 +32,14 @@ pub enum Field {
 }
 
 // The editions of the format: in the second each frame has a CRC-32.
-#[derive(Clone, Copy)]
+#[derive(Clone, Copy, PartialEq, Eq)]
 pub enum Edition {
     First,
     Second,
 }
 
 // The first bad field, and its offset in the block.
-#[derive(Clone, Copy)]
+#[derive(Clone, Copy, PartialEq, Eq)]
 pub struct Fault {
     pub field: Field,
     pub place: usize,
@@ -81,7 +81,7 @@ pub const RESET_LEN: u8 = 5;
 pub const BUFFER_LEN: usize = PUT_LEN as usize + 4 + VALUE_MAX;
 
 // A frame without its value's bytes: how many there are.
-#[derive(Clone, Copy)]
+#[derive(Clone, Copy, PartialEq, Eq)]
 pub enum Head {
     Put(Host, ObjectId, u8),
     Delete(Host, ObjectId),
@@ -112,23 +112,27 @@ pub fn check_len(edition: Edition) -> u8
 }
 
 // An edition's number.
-pub fn edition_number(edition: Edition) -> u8
-    ensures { result ≡ edition_number edition }
-{
-    match edition {
-        Edition::First => 1,
-        Edition::Second => 2,
+impl From<Edition> for u8 {
+    ghost from_gives = { λ edition n. n ≡ edition_number edition };
+
+    fn from(edition: Edition) -> u8 {
+        match edition {
+            Edition::First => 1,
+            Edition::Second => 2,
+        }
     }
 }
 
 // The edition that has a number: 2 is the second's, any other the first's.
-pub fn edition_by(n: u8) -> Edition
-    ensures { result ≡ edition_by n }
-{
-    if n == 2 {
-        return Edition::Second;
+impl From<u8> for Edition {
+    ghost from_gives = { λ n edition. edition ≡ edition_by n };
+
+    fn from(n: u8) -> Edition {
+        match n {
+            2 => Edition::Second,
+            _ => Edition::First,
+        }
     }
-    Edition::First
 }
 
 // The length of a frame.

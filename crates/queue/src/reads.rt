@@ -11,7 +11,7 @@ use crate::gate;
 use crate::gate::Gate;
 use board::{Phase, Record, Rest};
 use fetch::Found;
-use frame::{Host, ObjectId};
+use frame::{Edition, Host, ObjectId};
 use wire::{Answer, Parsed, Refusal};
 
 // A stretch of the image.
@@ -52,7 +52,7 @@ fn at_place(image: &[u8], blocks: u8, rest: Rest, place: u16, id: ObjectId) -> L
     }
     let size = flash::size_of(blocks, image.len());
     let block = flash::block_of(image, size, rest.block);
-    let edition = frame::edition_by(rest.edition);
+    let edition = Edition::from(rest.edition);
     match fetch::value_at(block, edition, id, place) {
         Found::Nothing => return nothing(Refusal::Stale),
         Found::At(at, n) => {

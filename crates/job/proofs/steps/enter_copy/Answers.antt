@@ -20,7 +20,7 @@ returns-in-Frame c =
     λ f a. subst (LeadsTo _ _ f c.load.result)
     (frame_found c.args.blocks c.args.image.now (assemble c.args.n c.args.places.now c.args.unit.now f) c.block_of-source.result.now
     (c.block_of-source.ensures ∙ ap (λ (s : ℕ). block s c.args.n.rest.block c.args.image.now) c.size_of-size.ensures)
-    c.edition_by-edition.result c.edition_by-edition.ensures c.next_load.result (fetches _ _ _ _ _ _ _ _ c.next_load.ensures).0 c.in-Frame.fetch
+    c.from-edition.result c.from-edition.ensures c.next_load.result (fetches _ _ _ _ _ _ _ _ c.next_load.ensures).0 c.in-Frame.fetch
     c.in-Frame.is) (c.load.ensures f a)
 
 pub returns-in-Nothing : goal.returns-in-Nothing
@@ -29,5 +29,5 @@ returns-in-Nothing c =
     (going Seal (first c.args.n.cursor) c.args.n))
     (none_found c.args.blocks c.args.image.now (assemble c.args.n c.args.places.now c.args.unit.now f) c.block_of-source.result.now
     (c.block_of-source.ensures ∙ ap (λ (s : ℕ). block s c.args.n.rest.block c.args.image.now) c.size_of-size.ensures)
-    c.edition_by-edition.result c.edition_by-edition.ensures c.next_load.result (fetches _ _ _ _ _ _ _ _ c.next_load.ensures).0 c.in-Nothing.is)
+    c.from-edition.result c.from-edition.ensures c.next_load.result (fetches _ _ _ _ _ _ _ _ c.next_load.ensures).0 c.in-Nothing.is)
     (going_leaves c.args.places.now c.args.unit.now f Seal (first c.args.n.cursor) c.args.n))

@@ -39,7 +39,7 @@ returns-in-Nothing c =
     -- what the code found is what stands at the place
     let value : c.value_at.result ≡ found_of (value_at (edition_by c.args.rest.edition) (block (size_of c.args.blocks c.args.image.now)
     c.args.rest.block c.args.image.now) c.args.id c.args.place) =
-    rw (c.value_at.ensures, c.block_of-block.ensures, c.size_of-size.ensures, c.edition_by-edition.ensures) refl in
+    rw (c.value_at.ensures, c.block_of-block.ensures, c.size_of-size.ensures, c.from-edition.ensures) refl in
     let located : located_in c.args.blocks c.args.image.now c.args.rest c.args.place c.args.id ≡ located_at (c.args.rest.block * size_of c.args.blocks
     c.args.image.now) c.value_at.result =
     rw (sym c.same_shape.ensures ∙ not-false c.same_shape.result c.if-not-same_shape.false-raw, ne_eqb c.args.place 0 c.if-place-eq0.false, located_in)
@@ -54,7 +54,7 @@ overflow_mul-result c =
     -- what the code found is what stands at the place
     let value : c.value_at.result ≡ found_of (value_at (edition_by c.args.rest.edition) (block (size_of c.args.blocks c.args.image.now)
     c.args.rest.block c.args.image.now) c.args.id c.args.place) =
-    rw (c.value_at.ensures, c.block_of-block.ensures, c.size_of-size.ensures, c.edition_by-edition.ensures) refl in
+    rw (c.value_at.ensures, c.block_of-block.ensures, c.size_of-size.ensures, c.from-edition.ensures) refl in
     let inside : (c.args.rest.block * c.size_of-size.result + c.in-At.at + c.in-At.n ≤ length c.args.image.now) × (length c.args.image.now ≤ 65536) =
     rw c.size_of-size.ensures (found_inside c.args.blocks c.args.image.now c.args.rest.block c.requires (edition_by c.args.rest.edition)
     c.args.id c.args.place c.in-At.at c.in-At.n (sym value ∙ c.in-At.is)) in
@@ -65,7 +65,7 @@ overflow_add-result c =
     -- what the code found is what stands at the place
     let value : c.value_at.result ≡ found_of (value_at (edition_by c.args.rest.edition) (block (size_of c.args.blocks c.args.image.now)
     c.args.rest.block c.args.image.now) c.args.id c.args.place) =
-    rw (c.value_at.ensures, c.block_of-block.ensures, c.size_of-size.ensures, c.edition_by-edition.ensures) refl in
+    rw (c.value_at.ensures, c.block_of-block.ensures, c.size_of-size.ensures, c.from-edition.ensures) refl in
     let inside : (c.args.rest.block * c.size_of-size.result + c.in-At.at + c.in-At.n ≤ length c.args.image.now) × (length c.args.image.now ≤ 65536) =
     rw c.size_of-size.ensures (found_inside c.args.blocks c.args.image.now c.args.rest.block c.requires (edition_by c.args.rest.edition)
     c.args.id c.args.place c.in-At.at c.in-At.n (sym value ∙ c.in-At.is)) in
@@ -77,7 +77,7 @@ returns-in-At c =
     -- what the code found is what stands at the place
     let value : c.value_at.result ≡ found_of (value_at (edition_by c.args.rest.edition) (block (size_of c.args.blocks c.args.image.now)
     c.args.rest.block c.args.image.now) c.args.id c.args.place) =
-    rw (c.value_at.ensures, c.block_of-block.ensures, c.size_of-size.ensures, c.edition_by-edition.ensures) refl in
+    rw (c.value_at.ensures, c.block_of-block.ensures, c.size_of-size.ensures, c.from-edition.ensures) refl in
     let located : located_in c.args.blocks c.args.image.now c.args.rest c.args.place c.args.id ≡ located_at (c.args.rest.block * size_of c.args.blocks
     c.args.image.now) c.value_at.result =
     rw (sym c.same_shape.ensures ∙ not-false c.same_shape.result c.if-not-same_shape.false-raw, ne_eqb c.args.place 0 c.if-place-eq0.false, located_in)
