@@ -1,7 +1,7 @@
 // The flash: an image of bytes in blocks of one size. A step programs one byte or erases one block.
 #![tactic(auto)]
 
-ghost use Rattle.std.specs.Prelude.{◌≡◌, ◌+◌, ◌*◌, ◌-◌, ◌≤◌, min, length, get_or, take, drop, replicate};
+ghost use Rattle.std.specs.Prelude.{◌≡◌, ◌+◌, ◌*◌, ◌-◌, min, get_or};
 ghost use Rattle.flash.specs.Bytes.{all_ff};
 ghost use Rattle.flash.specs.Flash.{size_in, block, program_at, erase_block};
 
