@@ -1,21 +1,20 @@
 -- A block's survey, by the way the code goes: which state it is in, and what a walk of its frames and a tally come to.
 use mathlib.Core.Path.{◌≡◌, refl, sym, ap, ap₂, subst, ◌∙◌}
 use mathlib.Core.List.{List, ◌++◌}
-use mathlib.Core.Option.{Option, none, some}
+use mathlib.Core.Option.{none}
 use mathlib.Core.Bool.{true, false}
-use Prim.Native.Nat.{ℕ, ◌+◌, ◌≤◌, ◌<◌}
+use Prim.Native.Nat.{ℕ, ◌+◌, ◌≤◌}
 use native.Mathlib.Omega.{arith}
 use lib.Dec.{eqb}
 use lib.ListN.{length, length-map, get_or, take, drop, replicate, length-drop, take-append-drop}
 use lib.Seq.{length-take-le}
-use borrow.Author.Tests.{le-leb, lt-leb}
+use borrow.Author.Tests.{le-leb}
 use Rattle.flash.specs.Bytes.{all_ff}
 use Rattle.std.specs.Prelude.{Result, Ok, Err}
 use Rattle.frame.specs.declared.Edition.{Edition}
 use Rattle.frame.specs.declared.Fault.{Fault}
-use Rattle.frame.specs.declared.Field.TheVariants as field
 use Rattle.frame.specs.Frame.{Frame, total, next_of}
-use Rattle.frame.specs.Reader.{fault, Tail, clean, cut, bad, Scan, ends}
+use Rattle.frame.specs.Reader.{Tail, clean, cut, bad, Scan, ends}
 use Rattle.frame.specs.Sentences.{Torn}
 use Rattle.frame.proofs.Scanned.{Scanned, scan_inv, scan-length, tail-cut}
 use Rattle.frame.proofs.Exact.{torn-fits}
@@ -24,13 +23,13 @@ use Rattle.survey.specs.declared.BlockKind.{BlockKind}
 use Rattle.survey.specs.declared.BlockKind.TheVariants as kind
 use Rattle.survey.specs.declared.Survey.{Survey}
 use Rattle.journal.specs.Replay.{lookup, list_of, replay, replay_from}
-use Rattle.journal.specs.Block.{header_len, block_max, state_at, in_transfer, created_at, edition_in, header_fault, Journal, journal, BlockState, blank}
+use Rattle.journal.specs.Block.{header_len, block_max, state_at, in_transfer, created_at, edition_in, Journal, journal, BlockState, blank}
 use Rattle.journal.specs.Block.{in_progress, valid}
 use Rattle.journal.specs.Block.{foreign, of_journal, of_header, block_state, torn_len}
 use Rattle.journal.specs.Index.{sited, places_from, places_of, since_from, since_of}
 use Rattle.journal.specs.Room.{used, pending_of}
 use Rattle.survey.specs.Survey.{survey_of, places_in, state_of, verdict, Judged}
-use Rattle.survey.specs.Pass.{header_of, scan_block, progress_of, walked, walk_of, lengths_at, settled_total, tally_of, empty_survey, found_survey}
+use Rattle.survey.specs.Pass.{scan_block, progress_of, walked, walk_of, lengths_at, settled_total, tally_of, empty_survey, found_survey}
 use Rattle.journal.proofs.Replaying.{rising-to, Sound, sound-replay}
 use Rattle.journal.proofs.Places.{Standing}
 use Rattle.journal.proofs.Room.{claimed-replay}
@@ -87,14 +86,6 @@ err_right (foreign g) f x t e u v =
 -- ---- by the block's length
 
 module _ (b : List ℕ) where
-  pub half_short : length b < header_len → state_of b ≡ foreign (fault field.Length 0)
-  unfolding state_of
-  half_short l = rw (lt-leb header_len (length b) l, state_of)
-
-  pub half_long : header_len ≤ length b → block_max < length b → state_of b ≡ foreign (fault field.Length 0)
-  unfolding state_of
-  half_long l m = rw (le-leb header_len (length b) l, lt-leb (length b) block_max m, state_of)
-
   -- callers' blocks are halves
   pub half_fits : (header_len ≤ length b) × (length b ≤ block_max) → state_of b ≡ block_state b
   unfolding state_of
@@ -107,30 +98,10 @@ module _ (b : List ℕ) (h : (header_len ≤ length b) × (length b ≤ block_ma
   unfolding block_state
   is_blank a x t u v = judged_as blank (state_of b) (Ok x) t (half_fits b h ∙ rw (a, block_state)) (judged_blank x t u v)
 
-  module _ (a : all_ff b ≡ false) where
-    pub is_progress : eqb (get_or b state_at 0) in_transfer ≡ true → (x : Survey) (t : List ℕ) → x ≡ empty_survey kind.InProgress → t ≡ replicate 256 0
-        → Judged (state_of b) (Ok x) t
-    unfolding block_state
-    is_progress p x t u v = judged_as in_progress (state_of b) (Ok x) t (half_fits b h ∙ rw (a, p, block_state)) (judged_progress x t u v)
-
-    module _ (p : eqb (get_or b state_at 0) in_transfer ≡ false) where
-      state_is : state_of b ≡ of_header b (header_fault b)
-      unfolding block_state
-      state_is = half_fits b h ∙ rw (a, p, block_state)
-
-      pub is_foreign : (f : Fault) (t : List ℕ) → Err f ≡ header_of (header_fault b) → Judged (state_of b) (Err f) t
-      is_foreign f t e = judged_as (of_header b (header_fault b)) (state_of b) (Err f) t state_is (go (header_fault b) e)
-        where
-          go : (o : Option Fault) → Err f ≡ header_of o → Judged (of_header b o) (Err f) t
-          go none q = cc
-          go (some g) q = let y : f ≡ g = cc in (ap Err y, tt)
-
-      pub is_sound : (r : Result Survey Fault) (t : List ℕ) → Ok tt ≡ header_of (header_fault b) → Judged (of_header b none) r t → Judged (state_of b) r t
-      is_sound r t e y = judged_as (of_header b none) (state_of b) r t (state_is ∙ ap (of_header b) (go (header_fault b) e)) y
-        where
-          go : (o : Option Fault) → Ok tt ≡ header_of o → o ≡ none
-          go none q = refl
-          go (some g) q = cc
+  pub is_progress : all_ff b ≡ false → eqb (get_or b state_at 0) in_transfer ≡ true → (x : Survey) (t : List ℕ) → x ≡ empty_survey kind.InProgress
+      → t ≡ replicate 256 0 → Judged (state_of b) (Ok x) t
+  unfolding block_state
+  is_progress a p x t u v = judged_as in_progress (state_of b) (Ok x) t (half_fits b h ∙ rw (a, p, block_state)) (judged_progress x t u v)
 
 -- ---- a valid block
 

@@ -127,6 +127,7 @@ fn survey_frames(block: &[u8], places: &mut [u16; 256]) -> Result<Survey, Fault>
 }
 
 // A block, before any id has a place; a foreign one's fault.
+#[tactic(auto, unfolding(crate::specs::Survey::state_of, journal::specs::Block::block_state))]
 fn judge(block: &[u8], places: &mut [u16; 256]) -> Result<Survey, Fault>
     requires { places.old ≡ replicate 256 0 }
     ensures { Judged (state_of block.now) result places.new }

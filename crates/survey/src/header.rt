@@ -50,6 +50,7 @@ fn is_kind(block: &[u8], edition: Edition) -> bool
 }
 
 // The edition that a header's kind tells.
+#[tactic(auto, unfolding(journal::specs::Block::edition_in))]
 pub fn edition_in(block: &[u8]) -> Edition
     ensures { result ≡ edition_in block.now }
 {
@@ -68,6 +69,7 @@ pub fn fault(field: Field, place: usize) -> Fault
 }
 
 // The first field of a header that is wrong.
+#[tactic(auto, unfolding(journal::specs::Block::header_fault))]
 pub fn header_fault(block: &[u8]) -> Result<(), Fault>
     ensures { result ≡ header_of (header_fault block.now) }
 {
