@@ -31,7 +31,7 @@ fn mixed() -> [u8; 301] {
     let mut x = 1u32;
     for byte in &mut s {
         x = (x * 75 + 74) % 65537;
-        *byte = (x % 256) as u8;
+        *byte = x.to_le_bytes()[0];
     }
     s
 }
