@@ -15,7 +15,7 @@ use crate::moves::Moved;
 use crate::records::{Numbers, Stepped};
 use crate::{Outcome, actions, moves, placing, records};
 use board::{Cursor, Phase, Record, Stage};
-use fetch::{Fetch, Fetched};
+use fetch::Fetch;
 use frame::{BODY_AT, BUFFER_LEN, Edition, KIND_AT};
 use wire::{Answer, Refusal};
 
@@ -82,8 +82,8 @@ pub fn enter_copy(
         cursor.id,
         cursor.source,
     ) {
-        Fetched::Frame(fetch) => return load(source, fetch, n, kind, by, places, unit),
-        Fetched::Nothing => return records::enter(Stage::Seal, n),
+        Some(fetch) => load(source, fetch, n, kind, by, places, unit),
+        None => records::enter(Stage::Seal, n),
     }
 }
 
