@@ -25,7 +25,7 @@ fn seal(g: &mut [u8], edition: Edition, m: usize)
     }
 }
 
-// The frame of a kind whose body is fields and a value, and zeros after it.
+// The frame of a kind whose body is fields and a value, and zeros after it. The kind is the format's own number, which goes into the frame as it is.
 fn assemble(edition: Edition, kind: u8, fields: &[u8], value: &[u8]) -> [u8; BUFFER_LEN]
     requires { (length fields.now ≤ 3) × (length value.now ≤ value_max) }
     ensures { result ≡ buffer (sealed edition (u16le (overhead edition + length (fields.now ++ value.now)) ++ (u16le kind ++ (fields.now ++ value.now)))) }

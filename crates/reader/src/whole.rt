@@ -78,11 +78,10 @@ impl Front<'_> {
     fn is_whole(&self, next: usize) -> bool
         ensures { result ≡ is_whole self.now.edition next self.now.bytes.now }
     {
-        let t = self.bytes;
-        END_LEN as usize <= t.len()
-            && t[LENGTH_HIGH] == 0
-            && t[KIND_HIGH] == 0
-            && match t[KIND_AT] {
+        END_LEN as usize <= self.bytes.len()
+            && self.bytes[LENGTH_HIGH] == 0
+            && self.bytes[KIND_HIGH] == 0
+            && match self.bytes[KIND_AT] {
                 1 => self.is_change(),
                 2 => self.len == DELETE_LEN + check_len(self.edition) && self.is_change(),
                 3 | 4 => self.is_end(),
