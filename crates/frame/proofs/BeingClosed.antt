@@ -11,7 +11,7 @@ use lib.ListN.{length, get_or, take, drop, replicate, length-append, length-drop
 use lib.Seq.{get_or_at, get_or-drop, drop_at, length-take-le}
 use borrow.Author.Tests.{eqb-true, eqb-false, eq-eqb, ne_eqb, not-true}
 use Rattle.flash.specs.Bytes.{all_ff}
-use Rattle.flash.proofs.Cases.{on_test, clash, and_both, and_left, and_right, or_left, or_right, or_no-left, or_no_right}
+use Rattle.flash.proofs.Cases.{on_test, clash, and_both, and_left, and_right, or_left, or_right}
 use Rattle.flash.proofs.Blank.{all_ff-all, all_ff-at, all_ff_lem}
 use Rattle.frame.specs.declared.Edition.{Edition}
 use Rattle.frame.specs.Frame.{Frame, seal_of, check, finish, front, encode, frame_len, settled_len, ClosedLength}
@@ -62,14 +62,6 @@ module _ (e : Edition) (n : ℕ) (t : List ℕ) where
   pub not_kind : (get_or t 2 0 ≡ 0 → ⊥) → being_closed e n t ≡ false
   not_kind h = being_not (λ y. h y.kind)
 
-  pub not_long : (get_or t 1 0 ≡ 0 → ⊥) → being_closed e n t ≡ false
-  not_long h = being_not (λ y. h y.long)
-
-  pub not_high : (eqb (get_or t 3 0) 0 || eqb (get_or t 3 0) 255) ≡ false → being_closed e n t ≡ false
-  not_high h = being_not (λ y.
-      ⊎_elim (λ a. eqb-false (get_or t 3 0) 0 (or_no-left (eqb (get_or t 3 0) 0) (eqb (get_or t 3 0) 255) h) a)
-      (λ a. eqb-false (get_or t 3 0) 255 (or_no_right (eqb (get_or t 3 0) 0) (eqb (get_or t 3 0) 255) h) a) y.high)
-
   pub not_settled : n ≡ settled_len e 0 → being_closed e n t ≡ false
   not_settled h = being_not (λ y. y.other h)
 
@@ -78,12 +70,7 @@ module _ (e : Edition) (n : ℕ) (t : List ℕ) where
       clash (all_ff (drop (n - 1) t)) y.blank
       (all_ff-at (drop (n - 1) t) 0 (omega (arith, length-drop (n - 1) t))
       (λ q. h (ap (λ (i : ℕ). get_or t i 0) (sym (add-zero (n - 1))) ∙ sym (get_or-drop (n - 1) t 0 0) ∙ q))))
-
   -- ---- or its last test decides
-
-  pub being_by : get_or t 2 0 ≡ 0 → get_or t 1 0 ≡ 0 → (eqb (get_or t 3 0) 0 || eqb (get_or t 3 0) 255) ≡ true → (n ≡ settled_len e 0 → ⊥)
-      → all_ff (drop (n - 1) t) ≡ being_closed e n t
-  being_by a b h s = rw (eq-eqb (get_or t 2 0) 0 a, eq-eqb (get_or t 1 0) 0 b, h, ne_eqb n (settled_len e 0) s)
 
 -- a frame's last byte
 pub last_byte : (e : Edition) (f : Frame) (rest : List ℕ) → get_or (encode e f ++ rest) (frame_len e f - 1) 0 ≡ finish

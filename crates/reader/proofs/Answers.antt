@@ -6,50 +6,50 @@ use mathlib.Core.Bool.{Bool, true, false, ◌&&◌}
 use Prim.Native.Nat.{ℕ, zero, suc, ◌+◌, ◌≤◌, ◌<◌}
 use native.Mathlib.Omega.{arith}
 use native.Mathlib.Nat.{zero-add, add-zero}
+use Rattle.std.specs.Prelude.{Option, Some, None}
+use Rattle.std.specs.Option.{option_or}
 use lib.Dec.{eqb, leb}
-use borrow.Author.Tests.{leb-true, le-leb, lt-leb, eqb-true, eq-eqb}
+use borrow.Author.Tests.{le-leb, lt-leb, eq-eqb}
 use lib.ListN.{length, get_or, drop}
 use Rattle.flash.specs.Bytes.{all_ff}
 use Rattle.flash.proofs.Cases.{on_test, clash, and_both, and_no-left, and_no_right, or_right}
-use Rattle.frame.specs.Frame.{Frame, reset, id_max, check_len, put_len, settled_len, ClosedLength}
+use Rattle.frame.specs.Frame.{Frame, check_len, put_len, settled_len, ClosedLength}
 use Rattle.frame.specs.Reader.{Read, blank, whole, torn, wrong, fault, fault_at, Slot, fits, layout_of, laid, has_length, only_settled}
 use Rattle.frame.specs.Reader.{Match, all, part, misfit, match, decode, of_match, being_closed, read_laid, read_frame}
 use Rattle.frame.specs.Code.{head_of, read_of}
-use Rattle.reader.specs.Misfits.{first_misfit, misfit_from}
+use Rattle.reader.specs.Misfits.{laid_misfit, misfit_at, misfit_from}
 use Rattle.frame.specs.declared.Edition.{Edition}
 use Rattle.frame.specs.declared.Fault.{Fault}
-use Rattle.frame.specs.declared.Field.{Field}
 use Rattle.frame.specs.declared.Field.TheVariants as field
 use Rattle.frame.specs.declared.FrameRead.{FrameRead}
 use Rattle.frame.specs.declared.FrameRead.TheVariants as read
-use Rattle.reader.specs.declared.Misfit.{Misfit}
-use Rattle.reader.specs.declared.Misfit.TheVariants as found
+use Rattle.reader.specs.declared.fitting.Misfit.{Misfit}
 use Rattle.frame.proofs.Fit.{match-go, match-part, match-misfit}
-use Rattle.frame.proofs.Own.{only_yes, SomeLength, length-of, length_inv}
+use Rattle.frame.proofs.Own.{only_yes, SomeLength, length_inv}
 use Rattle.frame.proofs.Layouts.{length_slots}
 use Rattle.frame.proofs.Exact.{length_fits, read_ff, read-laid, read_being, read_short}
-use Rattle.reader.proofs.Misfits.{first-none, first-at, one-fits, one_fails}
+use Rattle.reader.proofs.Misfits.{one-fits, one_fails}
 
 -- ---- a misfit, and the match
 
 found-go : (o : ℕ) (p : Slot) (ps : List Slot) (b : ℕ) (t : List ℕ) → fits p b ≡ true → misfit_from o (p ∷ ps) (b ∷ t) ≡ misfit_from (suc o) ps t
 unfolding misfit_from
-found-go o p ps b t e = ap (λ (x : Misfit). first_misfit x (misfit_from (suc o) ps t)) (one-fits o p b e) ∙ first-none (misfit_from (suc o) ps t)
+found-go o p ps b t e = ap (λ (x : Option Misfit). option_or x (misfit_from (suc o) ps t)) (one-fits o p b e)
 
-found-stop : (o : ℕ) (p : Slot) (ps : List Slot) (b : ℕ) (t : List ℕ) → fits p b ≡ false → misfit_from o (p ∷ ps) (b ∷ t) ≡ found.At o p.field p.start
+found-stop : (o : ℕ) (p : Slot) (ps : List Slot) (b : ℕ) (t : List ℕ) → fits p b ≡ false → misfit_from o (p ∷ ps) (b ∷ t) ≡ misfit_at o p
 unfolding misfit_from
 found-stop o p ps b t e =
-    ap (λ (x : Misfit). first_misfit x (misfit_from (suc o) ps t)) (one_fails o p b e) ∙ first-at o p.field p.start (misfit_from (suc o) ps t)
+    ap (λ (x : Option Misfit). option_or x (misfit_from (suc o) ps t)) (one_fails o p b e)
 
 -- tears, and only 0xFF follows
-abbrev pub cut_off_of : Bool → Bool → ℕ → Field → ℕ → FrameRead
-cut_off_of true true n f s = read.Torn n
-cut_off_of true false n f s = read.Wrong (fault f s)
-cut_off_of false x n f s = read.Wrong (fault f s)
+abbrev pub cut_off_of : Bool → Bool → ℕ → Fault → FrameRead
+cut_off_of true true n e = read.Torn n
+cut_off_of true false n e = read.Wrong e
+cut_off_of false x n e = read.Wrong e
 
-abbrev pub laid_read : Bool → ℕ → Frame → List ℕ → Misfit → FrameRead
-laid_read b n f t found.None = read.Whole (head_of f)
-laid_read b n f t (found.At o g s) = cut_off_of b (all_ff (drop o t)) n g s
+abbrev pub laid_read : Bool → ℕ → Frame → List ℕ → Option Misfit → FrameRead
+laid_read b n f t None = read.Whole (head_of f)
+laid_read b n f t (Some m) = cut_off_of b (all_ff (drop m.at t)) n m.fault
 
 at_front : (p : Slot) → read_of (wrong (fault_at 0 p)) ≡ read.Wrong (fault p.field p.start)
 at_front p = ap (λ (s : ℕ). read.Wrong (fault p.field s)) (zero-add p.start)
@@ -60,11 +60,11 @@ drop-next zero b [] u e = ap (drop 1) e
 drop-next (suc o) b [] u e = ap (drop 1) e
 drop-next (suc o) b (x ∷ t) u e = drop-next o b t u e
 
-part_is : (b : Bool) (n : ℕ) (f : Frame) (p : Slot) → read_of (of_match 0 n b f (part p)) ≡ cut_off_of b true n p.field p.start
+part_is : (b : Bool) (n : ℕ) (f : Frame) (p : Slot) → read_of (of_match 0 n b f (part p)) ≡ cut_off_of b true n (fault p.field p.start)
 part_is true n f p = refl
 part_is false n f p = at_front p
 
-misfit-is : (b : Bool) (n : ℕ) (f : Frame) (p : Slot) → read_of (of_match 0 n b f (misfit p)) ≡ cut_off_of b false n p.field p.start
+misfit-is : (b : Bool) (n : ℕ) (f : Frame) (p : Slot) → read_of (of_match 0 n b f (misfit p)) ≡ cut_off_of b false n (fault p.field p.start)
 misfit-is true n f p = at_front p
 misfit-is false n f p = at_front p
 
@@ -79,13 +79,13 @@ read-from c n f t o (p ∷ ps) (b ∷ u) e l =
     ∙ read-from c n f t (suc o) ps u (drop-next o b t u e) (omega arith)
     ∙ ap (laid_read c n f t) (sym (found-go o p ps b u q)))
     (λ q.
-    let r : laid_read c n f t (misfit_from o (p ∷ ps) (b ∷ u)) ≡ cut_off_of c (all_ff (b ∷ u)) n p.field p.start
-    = ap (laid_read c n f t) (found-stop o p ps b u q) ∙ ap (λ (x : List ℕ). cut_off_of c (all_ff x) n p.field p.start) e in
+    let r : laid_read c n f t (misfit_from o (p ∷ ps) (b ∷ u)) ≡ cut_off_of c (all_ff (b ∷ u)) n (fault p.field p.start)
+    = ap (laid_read c n f t) (found-stop o p ps b u q) ∙ ap (λ (x : List ℕ). cut_off_of c (all_ff x) n (fault p.field p.start)) e in
     on_test (all_ff (b ∷ u))
     (λ a. ap (λ (m : Match). read_of (of_match 0 n c f m)) (match-part p ps b u q a)
-    ∙ part_is c n f p ∙ sym (r ∙ ap (λ (x : Bool). cut_off_of c x n p.field p.start) a))
+    ∙ part_is c n f p ∙ sym (r ∙ ap (λ (x : Bool). cut_off_of c x n (fault p.field p.start)) a))
     (λ a. ap (λ (m : Match). read_of (of_match 0 n c f m)) (match-misfit p ps b u q a)
-    ∙ misfit-is c n f p ∙ sym (r ∙ ap (λ (x : Bool). cut_off_of c x n p.field p.start) a)))
+    ∙ misfit-is c n f p ∙ sym (r ∙ ap (λ (x : Bool). cut_off_of c x n (fault p.field p.start)) a)))
 
 -- the slots and the answer, where the length fits
 module _ (e : Edition) (next n k : ℕ) (t : List ℕ) (p : n ≡ get_or t 0 0) (q : k ≡ get_or t 2 0) (l : has_length e next n ≡ true) (h : n ≤ length t) where
@@ -95,7 +95,7 @@ module _ (e : Edition) (next n k : ℕ) (t : List ℕ) (p : n ≡ get_or t 0 0) 
       ∙ length_slots e next t (ap (has_length e next) (sym p) ∙ l) ∙ sym p
 
   pub laid-read : read_of (read_laid e next 0 n k t)
-      ≡ laid_read (layout_of e next n k).tears n (decode e k n t) t (misfit_from 0 (laid n (layout_of e next n k) t) t)
+      ≡ laid_read (layout_of e next n k).tears n (decode e k n t) t (laid_misfit n (layout_of e next n k) t)
   laid-read = read-from (layout_of e next n k).tears n (decode e k n t) t 0 (laid n (layout_of e next n k) t) t refl (omega (arith, size_is))
 
 -- ---- the steps of the reader
@@ -115,6 +115,12 @@ module _ (e : Edition) (next n : ℕ) (t : List ℕ) (p : n ≡ get_or t 0 0) (a
       ap read_of (read-laid e next 0 t a (length-fits h l) (ap (λ (x : ℕ). being_closed e x t) (sym p) ∙ c)
       ∙ ap₂ (λ (x y : ℕ). read_laid e next 0 x y t) (sym p) (sym q))
 
+  -- and by its misfit
+  pub front_match : n ≤ length t → has_length e next n ≡ true → being_closed e n t ≡ false
+      → read_of (read_frame e next 0 t)
+      ≡ laid_read (layout_of e next n (get_or t 2 0)).tears n (decode e (get_or t 2 0) n t) t (laid_misfit n (layout_of e next n (get_or t 2 0)) t)
+  front_match h l c = front_laid (get_or t 2 0) refl h l c ∙ laid-read e next n (get_or t 2 0) t p refl l h
+
   pub front_long : length t < n → read_of (read_frame e next 0 t) ≡ read.Wrong (fault field.Length 0)
   front_long h =
       ap read_of (read_short e next 0 t a
@@ -126,40 +132,6 @@ module _ (e : Edition) (next n : ℕ) (t : List ℕ) (p : n ≡ get_or t 0 0) (a
       (ap (λ (x : ℕ). leb x (length t) && has_length e next x) (sym p) ∙ and_no_right (leb n (length t)) (has_length e next n) l))
 
 -- ---- lengths
-
-module _ (e : Edition) (next n : ℕ) where
-  same_length : (b : Bool) → (b ≡ true → SomeLength e next n) → (SomeLength e next n → b ≡ true) → b ≡ has_length e next n
-  same_length true f g = sym (length-of e next n (f refl))
-  same_length false f g = sym (on_test (has_length e next n) (λ q. clash true refl (sym (g (length_inv e next n q)))) (λ q. q))
-
-  pub is_reset : (r : ℕ) → r ≡ check_len e → n ≡ 5 + r → true ≡ has_length e next n
-  is_reset r q h = same_length true (λ b. inl (inl (omega arith))) (λ s. refl)
-
-  pub is-end : (r : ℕ) → r ≡ check_len e → n ≡ 6 + r → true ≡ has_length e next n
-  is-end r q h = same_length true (λ b. inl (inr (inl (omega arith)))) (λ s. refl)
-
-  pub is-put : (r : ℕ) → r ≡ check_len e → 8 + r ≤ n → leb n (248 + r) ≡ has_length e next n
-  is-put r q h =
-      same_length (leb n (248 + r)) (λ b. inl (inr (inr (omega arith, omega (arith, leb-true n (248 + r) b))))) (λ s. le-leb n (248 + r) (most s))
-    where
-      most : SomeLength e next n → n ≤ 248 + r
-      most (inl (inl s)) = omega arith
-      most (inl (inr (inl s))) = omega arith
-      most (inl (inr (inr s))) = omega arith
-      most (inr s) = omega arith
-
-  other : (r : ℕ) → r ≡ check_len e → (n ≡ 5 + r → ⊥) → (n ≡ 6 + r → ⊥) → n < 8 + r → SomeLength e next n → (next ≤ id_max) × (n ≡ settled_len e 0)
-  other r q z a b (inl (inl s)) = absurd (z (omega arith))
-  other r q z a b (inl (inr (inl s))) = absurd (a (omega arith))
-  other r q z a b (inl (inr (inr s))) = absurd (omega arith)
-  other r q z a b (inr s) = s
-
-  pub is_none : (r : ℕ) → r ≡ check_len e → (n ≡ 5 + r → ⊥) → (n ≡ 6 + r → ⊥) → n < 8 + r → id_max < next → false ≡ has_length e next n
-  is_none r q z a b h = same_length false (λ y. clash true refl (sym y)) (λ s. let y : next ≤ id_max = (other r q z a b s).0 in absurd (omega arith))
-
-  pub is-settled : (r : ℕ) → r ≡ check_len e → (n ≡ 5 + r → ⊥) → (n ≡ 6 + r → ⊥) → n < 8 + r → next ≤ id_max → eqb n (7 + r) ≡ has_length e next n
-  is-settled r q z a b h =
-      same_length (eqb n (7 + r)) (λ y. inr (h, omega (arith, eqb-true n (7 + r) y))) (λ s. eq-eqb n (7 + r) (omega (arith, (other r q z a b s).1)))
 
 pub host-length : (e : Edition) (next n k : ℕ) → only_settled e next n k ≡ false → has_length e next n ≡ true → ClosedLength e n
 host-length e next n k s q = go (length_inv e next n q)
@@ -175,17 +147,6 @@ put-least e n r q a b (inl h) = absurd (a (omega arith))
 put-least e n r q a b (inr (inl h)) = absurd (b (omega arith))
 put-least e n r q a b (inr (inr h)) = h.0
 
--- ---- heads
-
-pub decode-high : (e : Edition) (k n : ℕ) (t : List ℕ) → 6 ≤ k → decode e k n t ≡ reset
-decode-high e (suc (suc (suc (suc (suc (suc k)))))) n t h = refl
-decode-high e zero n t h = absurd (omega arith)
-decode-high e (suc zero) n t h = absurd (omega arith)
-decode-high e (suc (suc zero)) n t h = absurd (omega arith)
-decode-high e (suc (suc (suc zero))) n t h = absurd (omega arith)
-decode-high e (suc (suc (suc (suc zero)))) n t h = absurd (omega arith)
-decode-high e (suc (suc (suc (suc (suc zero))))) n t h = absurd (omega arith)
-
 -- ---- the same at an offset
 
 abbrev pub shift_read : ℕ → FrameRead → FrameRead
@@ -193,6 +154,13 @@ shift_read at read.Blank = read.Blank
 shift_read at (read.Whole h) = read.Whole h
 shift_read at (read.Torn n) = read.Torn n
 shift_read at (read.Wrong e) = read.Wrong (fault e.field (at + e.place))
+
+-- only a fault moves
+pub shift_other : (at : ℕ) (r : FrameRead) → ((e : Fault) → r ≡ read.Wrong e → ⊥) → shift_read at r ≡ r
+shift_other at read.Blank h = refl
+shift_other at (read.Whole f) h = refl
+shift_other at (read.Torn n) h = refl
+shift_other at (read.Wrong e) h = absurd (h e refl)
 
 shift_match : (at n : ℕ) (b : Bool) (f : Frame) (m : Match) → read_of (of_match at n b f m) ≡ shift_read at (read_of (of_match 0 n b f m))
 shift_match at n b f all = refl
@@ -214,6 +182,10 @@ shift_read_lem e next at t =
     (λ b. ap read_of (read_short e next at t a b)
     ∙ ap (λ (s : ℕ). read.Wrong (fault field.Length s)) (sym (add-zero at))
     ∙ ap (λ (r : Read). shift_read at (read_of r)) (sym (read_short e next 0 t a b))))
+
+pub moved : (e : Edition) (next at : ℕ) (t u : List ℕ) (r : FrameRead) → u ≡ t → r ≡ read_of (read_frame e next 0 u)
+    → shift_read at r ≡ read_of (read_frame e next at t)
+moved e next at t u r p q = ap (shift_read at) (q ∙ ap (λ (x : List ℕ). read_of (read_frame e next 0 x)) p) ∙ sym (shift_read_lem e next at t)
 
 -- back from what the code has of a fault
 pub wrong-read : (r : Read) (e : Fault) → read_of r ≡ read.Wrong e → r ≡ wrong e

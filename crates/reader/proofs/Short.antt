@@ -5,15 +5,17 @@ use mathlib.Core.Logic.{inl, inr}
 use mathlib.Core.Bool.{true, false, ◌&&◌, ◌||◌}
 use Prim.Native.Nat.{ℕ, zero, suc, ◌+◌, ◌-◌, ◌/◌, ◌%◌, ◌≤◌, ◌<◌}
 use native.Mathlib.Omega.{arith}
+use Rattle.std.specs.Prelude.{Option, None}
+use Rattle.std.specs.Option.{option_or}
 use lib.Dec.{eqb, leb}
-use borrow.Author.Tests.{leb-true, le-leb, eqb-true, eqb-false, eq-eqb, ne_eqb}
+use borrow.Author.Tests.{leb-true, eqb-true, eqb-false, eq-eqb, ne_eqb}
 use lib.ListN.{length, get_or, take}
 use Rattle.flash.specs.Bytes.{Bytes, le32}
 use Rattle.flash.proofs.Blank.{byte_at, all_ff-at}
-use Rattle.flash.proofs.Cases.{on_test, clash, and_left, and_right, and_no-left, and_no_right, or_left, or_neither}
+use Rattle.flash.proofs.Cases.{on_test, clash, and_left, and_right, and_no_right, or_left, or_neither}
 use Rattle.crc.specs.Crc.{crc32_of}
 use Rattle.frame.specs.Frame.{host_max, id_max, value_max, finish, check_len, put_len, delete_len, end_len, settled_len}
-use Rattle.frame.specs.Reader.{slot, Layout, laid, layout_of, last_kind, id_left, only_settled, decode, read_frame}
+use Rattle.frame.specs.Reader.{slot, Layout, layout_of, last_kind, id_left, only_settled, decode, read_frame}
 use Rattle.frame.specs.Code.{head_of, read_of}
 use Rattle.frame.specs.declared.Edition.{Edition}
 use Rattle.frame.specs.declared.Edition.TheVariants as edition
@@ -22,25 +24,24 @@ use Rattle.frame.specs.declared.Field.TheVariants as field
 use Rattle.frame.specs.declared.FrameRead.TheVariants as read
 use Rattle.frame.proofs.Own.{SomeLength, length-of, only_yes, layout-settled, layout-end, layout-change, last-kind}
 use Rattle.frame.proofs.BeingClosed.{not_kind}
-use Rattle.reader.specs.Misfits.{first_misfit, one_misfit, misfit_from, front_misfit}
+use Rattle.reader.specs.Misfits.{seal_misfit, laid_misfit, one_misfit, front_misfit}
 use Rattle.reader.specs.Whole.{checked, sealed, is_change, is_end, is_settled, of_kind, is_whole}
-use Rattle.reader.specs.declared.Misfit.{Misfit}
-use Rattle.reader.specs.declared.Misfit.TheVariants as misfit
-use Rattle.reader.proofs.Misfits.{first-none, one-between, first-is, second_is, seal_misfit, change_is, end_is, settled_is}
+use Rattle.reader.specs.declared.fitting.Misfit.{Misfit}
+use Rattle.reader.proofs.Misfits.{one-between, first-is, second_is, change_is, end_is, settled_is}
 use Rattle.reader.proofs.Answers.{laid_read, laid-read, front_laid}
 
 -- ---- no misfit
 
-both : {x y : Misfit} → x ≡ misfit.None → y ≡ misfit.None → first_misfit x y ≡ misfit.None
-both {x} {y} p q = ap₂ first_misfit p q ∙ first-none misfit.None
+both : {x y : Option Misfit} → x ≡ None → y ≡ None → option_or x y ≡ None
+both {x} {y} p q = ap₂ option_or p q
 
-one_is : (o : ℕ) (f : Field) (s x b : ℕ) → b ≡ x → one_misfit o (slot f s x x) b ≡ misfit.None
+one_is : (o : ℕ) (f : Field) (s x b : ℕ) → b ≡ x → one_misfit o (slot f s x x) b ≡ None
 one_is o f s x b q = one-between o (slot f s x x) b (omega arith) (omega arith)
 
-front_none : (a b : ℕ) (t : List ℕ) → get_or t 1 0 ≡ 0 → get_or t 3 0 ≡ 0 → a ≤ get_or t 2 0 → get_or t 2 0 ≤ b → front_misfit a b t ≡ misfit.None
+front_none : (a b : ℕ) (t : List ℕ) → get_or t 1 0 ≡ 0 → get_or t 3 0 ≡ 0 → a ≤ get_or t 2 0 → get_or t 2 0 ≤ b → front_misfit a b t ≡ None
 front_none a b t y z lo hi =
-    both (one_is 1 field.Length 0 0 (get_or t 1 0) y)
-    (both (one-between 2 (slot field.Kind 2 a b) (get_or t 2 0) lo hi) (one_is 3 field.Kind 2 0 (get_or t 3 0) z))
+    both (both (one_is 1 field.Length 0 0 (get_or t 1 0) y) (one-between 2 (slot field.Kind 2 a b) (get_or t 2 0) lo hi))
+    (one_is 3 field.Kind 2 0 (get_or t 3 0) z)
 
 -- a number that four bytes are, byte by byte
 module _ (c a b d f : ℕ) (q : c ≡ le32 a b d f) (ha : a < 256) (hb : b < 256) (hd : d < 256) (hf : f < 256) where
@@ -56,13 +57,8 @@ module _ (c a b d f : ℕ) (q : c ≡ le32 a b d f) (ha : a < 256) (hb : b < 256
   byte_3 : f ≡ c / 16777216
   byte_3 = omega arith
 
--- the finish byte is missing
-pub open_seal : (e : Edition) (n : ℕ) (t : List ℕ) → eqb (get_or t (n - 1) 0) finish ≡ false → sealed e n t ≡ false
-open_seal edition.First n t q = q
-open_seal edition.Second n t q = and_no-left (eqb (get_or t (n - 1) 0) finish) (checked (n - 5) t) q
-
 seal-none : (e : Edition) (n m : ℕ) (t : List ℕ) → Bytes t → n ≤ length t → n ≡ m + 1 + check_len e → sealed e n t ≡ true
-    → seal_misfit e m t ≡ misfit.None
+    → seal_misfit e m t ≡ None
 seal-none edition.First n m t bs h q s =
     let r : n - 1 ≡ m = omega arith in
     first-is m t (omega arith)
@@ -77,14 +73,15 @@ seal-none edition.Second n m t bs h q s =
     = eqb-true c _ (ap (λ (i : ℕ). checked i t) (sym u) ∙ and_right (eqb (b (n - 1)) finish) (checked (n - 5) t) s) in
     let part : (i : ℕ) → b i < 256 = λ i. byte_at t i bs in
     second_is m c t refl (omega arith)
-    ∙ both (one_is m field.Crc m (c % 256) (b m) (byte_0 c (b m) (b (m + 1)) (b (m + 2)) (b (m + 3)) sum (part m) (part (m + 1)) (part (m + 2)) (part (m + 3))))
-    (both (one_is (m + 1) field.Crc m (c / 256 % 256) (b (m + 1))
-    (byte_1 c (b m) (b (m + 1)) (b (m + 2)) (b (m + 3)) sum (part m) (part (m + 1)) (part (m + 2)) (part (m + 3))))
-    (both (one_is (m + 2) field.Crc m (c / 65536 % 256) (b (m + 2))
-    (byte_2 c (b m) (b (m + 1)) (b (m + 2)) (b (m + 3)) sum (part m) (part (m + 1)) (part (m + 2)) (part (m + 3))))
-    (both (one_is (m + 3) field.Crc m (c / 16777216) (b (m + 3))
-    (byte_3 c (b m) (b (m + 1)) (b (m + 2)) (b (m + 3)) sum (part m) (part (m + 1)) (part (m + 2)) (part (m + 3))))
-    (one_is (m + 4) field.Finish (m + 4) finish (b (m + 4)) last))))
+    ∙ both (both (both (both
+    (one_is m field.Crc m (c % 256) (b m) (byte_0 c (b m) (b (m + 1)) (b (m + 2)) (b (m + 3)) sum (part m) (part (m + 1)) (part (m + 2)) (part (m + 3))))
+    (one_is (m + 1) field.Crc m (c / 256 % 256) (b (m + 1))
+    (byte_1 c (b m) (b (m + 1)) (b (m + 2)) (b (m + 3)) sum (part m) (part (m + 1)) (part (m + 2)) (part (m + 3)))))
+    (one_is (m + 2) field.Crc m (c / 65536 % 256) (b (m + 2))
+    (byte_2 c (b m) (b (m + 1)) (b (m + 2)) (b (m + 3)) sum (part m) (part (m + 1)) (part (m + 2)) (part (m + 3)))))
+    (one_is (m + 3) field.Crc m (c / 16777216) (b (m + 3))
+    (byte_3 c (b m) (b (m + 1)) (b (m + 2)) (b (m + 3)) sum (part m) (part (m + 1)) (part (m + 2)) (part (m + 3)))))
+    (one_is (m + 4) field.Finish (m + 4) finish (b (m + 4)) last)
 
 -- ---- a frame of n bytes that begins as a frame does
 
@@ -95,7 +92,7 @@ only_no e next n k h l =
 
 module _ (e : Edition) (next n : ℕ) (t : List ℕ) (p : n ≡ get_or t 0 0) (h : n ≤ length t) (bs : Bytes t) (two : 1 < length t) (y : get_or t 1 0 ≡ 0)
     (z : get_or t 3 0 ≡ 0) where
-  whole_by : (k : ℕ) → k ≡ get_or t 2 0 → (k ≡ 0 → ⊥) → SomeLength e next n → misfit_from 0 (laid n (layout_of e next n k) t) t ≡ misfit.None
+  whole_by : (k : ℕ) → k ≡ get_or t 2 0 → (k ≡ 0 → ⊥) → SomeLength e next n → laid_misfit n (layout_of e next n k) t ≡ None
       → read_of (read_frame e next 0 t) ≡ read.Whole (head_of (decode e k n t))
   whole_by k q x s m =
       let l = length-of e next n s in
@@ -117,11 +114,11 @@ module _ (e : Edition) (next n : ℕ) (t : List ℕ) (p : n ≡ get_or t 0 0) (h
       let seal = and_right (eqb (get_or t 6 0) 0) _ w3 in
       let x : k ≡ 0 → ⊥ = λ r. omega arith in
       whole_by k q x (inl (inr (inr (least, most))))
-      (ap (λ (l : Layout). misfit_from 0 (laid n l t) t) (layout-change e next n k (only_no e next n k five (λ r. omega arith)) x least)
+      (ap (λ (l : Layout). laid_misfit n l t) (layout-change e next n k (only_no e next n k five (λ r. omega arith)) x least)
       ∙ change_is e n t p h bs least
-      ∙ both (front_none 1 (last_kind (eqb n (delete_len e))) t y z (omega arith) (omega arith))
-      (both (one-between 4 (slot field.Host 4 0 host_max) (get_or t 4 0) (omega arith) host)
-      (both (one_is 6 field.Id 5 0 (get_or t 6 0) id) (seal-none e n (n - 1 - check_len e) t bs h (omega arith) seal))))
+      ∙ both (both (both (front_none 1 (last_kind (eqb n (delete_len e))) t y z (omega arith) (omega arith))
+      (one-between 4 (slot field.Host 4 0 host_max) (get_or t 4 0) (omega arith) host))
+      (one_is 6 field.Id 5 0 (get_or t 6 0) id)) (seal-none e n (n - 1 - check_len e) t bs h (omega arith) seal))
 
   end_by : (k : ℕ) → k ≡ get_or t 2 0 → 3 ≤ k → k ≤ 4 → is_end e n t ≡ true → read_of (read_frame e next 0 t) ≡ read.Whole (head_of (decode e k n t))
   unfolding is_end
@@ -132,10 +129,10 @@ module _ (e : Edition) (next n : ℕ) (t : List ℕ) (p : n ≡ get_or t 0 0) (h
       let seal = and_right (leb (get_or t 4 0) host_max) _ w1 in
       let x : k ≡ 0 → ⊥ = λ r. omega arith in
       whole_by k q x (inl (inr (inl size)))
-      (ap (λ (l : Layout). misfit_from 0 (laid n l t) t) (layout-end e next n k (only_no e next n k (λ r. omega arith) (λ r. omega arith)) x size)
+      (ap (λ (l : Layout). laid_misfit n l t) (layout-end e next n k (only_no e next n k (λ r. omega arith) (λ r. omega arith)) x size)
       ∙ end_is e n t p h bs size
-      ∙ both (front_none 3 4 t y z (omega arith) (omega arith))
-      (both (one-between 4 (slot field.Host 4 0 host_max) (get_or t 4 0) (omega arith) host) (seal-none e n 5 t bs h (omega arith) seal)))
+      ∙ both (both (front_none 3 4 t y z (omega arith) (omega arith))
+      (one-between 4 (slot field.Host 4 0 host_max) (get_or t 4 0) (omega arith) host)) (seal-none e n 5 t bs h (omega arith) seal))
 
   settled_by : (k : ℕ) → k ≡ get_or t 2 0 → k ≡ 5 → is_settled e next n t ≡ true → read_of (read_frame e next 0 t) ≡ read.Whole (head_of (decode e k n t))
   unfolding is_settled
@@ -150,12 +147,12 @@ module _ (e : Edition) (next n : ℕ) (t : List ℕ) (p : n ≡ get_or t 0 0) (h
       let seal = and_right (eqb (get_or t 5 0) 0) _ w3 in
       let byte = byte_at t 4 bs in
       whole_by k q (λ r. omega arith) (some_length least most (omega arith))
-      (ap (λ (l : Layout). misfit_from 0 (laid n l t) t)
+      (ap (λ (l : Layout). laid_misfit n l t)
       (layout-settled e next n k (only_yes e next n k (omega arith) least most (or_left (eqb k 5) (eqb n (settled_len e 0)) (eq-eqb k 5 five))))
       ∙ settled_is e n t p h bs next least
-      ∙ both (front_none 5 5 t y z (omega arith) (omega arith))
-      (both (one-between 4 (slot field.Id 4 next 255) (get_or t 4 0) id (omega arith))
-      (both (one_is 5 field.Id 4 0 (get_or t 5 0) high) (seal-none e n (n - 1 - check_len e) t bs h (omega arith) seal))))
+      ∙ both (both (both (front_none 5 5 t y z (omega arith) (omega arith))
+      (one-between 4 (slot field.Id 4 next 255) (get_or t 4 0) id (omega arith)))
+      (one_is 5 field.Id 4 0 (get_or t 5 0) high)) (seal-none e n (n - 1 - check_len e) t bs h (omega arith) seal))
     where
       some_length : settled_len e 0 ≤ n → n ≤ settled_len e value_max → next ≤ id_max → SomeLength e next n
       some_length lo hi i =
@@ -185,35 +182,3 @@ whole-read e next t bs w =
     let w3 = and_right (eqb (get_or t 1 0) 0) _ w2 in
     let z : get_or t 3 0 ≡ 0 = eqb-true (get_or t 3 0) 0 (and_left _ _ w3) in
     kind_by e next (get_or t 0 0) t refl size bs (omega arith) y z (get_or t 2 0) refl (and_right (eqb (get_or t 3 0) 0) _ w3)
-
--- ---- the tests passed, then the kind
-
-pub whole_of : (e : Edition) (next : ℕ) (t : List ℕ) (k : ℕ) → end_len edition.First ≤ length t → get_or t 0 0 ≤ length t → get_or t 1 0 ≡ 0 → get_or t 3 0 ≡ 0
-    → get_or t 2 0 ≡ k → of_kind e next k (get_or t 0 0) t ≡ is_whole e next t
-unfolding is_whole
-whole_of e next t k a b y z q =
-    rw (
-      le-leb (end_len edition.First) (length t) a,
-      le-leb (get_or t 0 0) (length t) b,
-      eq-eqb (get_or t 1 0) 0 y,
-      eq-eqb (get_or t 3 0) 0 z,
-      q,
-    )
-
-abbrev Other : ℕ → Type 0
-Other k = (k ≡ 1 → ⊥) × (k ≡ 2 → ⊥) × (k ≡ 3 → ⊥) × (k ≡ 4 → ⊥) × (k ≡ 5 → ⊥)
-
-pub other-kind : (e : Edition) (next : ℕ) (t : List ℕ) → Other (get_or t 2 0) → is_whole e next t ≡ false
-unfolding is_whole
-other-kind e next t h =
-    and_no_right (leb (end_len edition.First) (length t)) _
-    (and_no_right (leb (get_or t 0 0) (length t)) _ (and_no_right (eqb (get_or t 1 0) 0) _ (and_no_right (eqb (get_or t 3 0) 0) _ (go (get_or t 2 0) h))))
-  where
-    go : (k : ℕ) → Other k → of_kind e next k (get_or t 0 0) t ≡ false
-    go zero h = refl
-    go (suc zero) h = absurd (h.0 refl)
-    go (suc (suc zero)) h = absurd (h.1 refl)
-    go (suc (suc (suc zero))) h = absurd (h.2 refl)
-    go (suc (suc (suc (suc zero)))) h = absurd (h.3 refl)
-    go (suc (suc (suc (suc (suc zero))))) h = absurd (h.4 refl)
-    go (suc (suc (suc (suc (suc (suc k)))))) h = refl

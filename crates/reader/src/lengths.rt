@@ -10,19 +10,10 @@ pub fn has_length(edition: Edition, next: usize, n: u8) -> bool
     ensures { result ≡ has_length edition next n }
 {
     let check = check_len(edition);
-    if n == RESET_LEN + check {
-        return true;
-    }
-    if n == END_LEN + check {
-        return true;
-    }
-    if PUT_LEN + check <= n {
-        return n as usize <= MAX_PUT + check as usize;
-    }
-    if ID_MAX < next {
-        return false;
-    }
-    n == SETTLED_LEN + check
+    n == RESET_LEN + check
+        || n == END_LEN + check
+        || (PUT_LEN + check <= n && n as usize <= MAX_PUT + check as usize)
+        || (next <= ID_MAX && n == SETTLED_LEN + check)
 }
 
 // The bytes can only be a settled frame's.
@@ -30,17 +21,8 @@ pub fn only_settled(edition: Edition, next: usize, n: u8, k: u8) -> bool
     ensures { result ≡ only_settled edition next n k }
 {
     let check = check_len(edition);
-    if ID_MAX < next {
-        return false;
-    }
-    if n < SETTLED_LEN + check {
-        return false;
-    }
-    if MAX_SETTLED + (check as usize) < n as usize {
-        return false;
-    }
-    if k == 5 {
-        return true;
-    }
-    n == SETTLED_LEN + check
+    next <= ID_MAX
+        && SETTLED_LEN + check <= n
+        && n as usize <= MAX_SETTLED + check as usize
+        && (k == 5 || n == SETTLED_LEN + check)
 }

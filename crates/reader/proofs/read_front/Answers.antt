@@ -1,36 +1,25 @@
--- The steps of the reader. The blank test ends at the first byte of a whole frame.
-use mathlib.Core.Path.{sym, ap, ◌∙◌}
+-- Blank, or a length that no frame has.
+use mathlib.Core.Path.{refl, sym, ap, ◌∙◌}
+use mathlib.Core.List.{List}
+use Prim.Native.Nat.{ℕ}
+use Rattle.std.proofs.lemmas.Option.{MatchOption-at_none}
+use lib.ListN.{get_or}
 use Rattle.frame.specs.Code.{read_of}
 use Rattle.frame.proofs.Exact.{read_ff}
-use Rattle.reader.proofs.Answers.{front_being, front_laid, front_long, front_none}
+use Rattle.reader.proofs.Answers.{front_long, front_none}
 use Rattle.reader.proofs.read_front.Goals as goal
 
 pub returns-then-is_blank : goal.returns-then-is_blank
 returns-then-is_blank c =
-    sym (ap read_of (read_ff c.args.edition c.args.next 0 c.args.t.now (sym c.is_blank.ensures ∙ c.if-is_blank.true)))
+    sym (ap read_of (read_ff c.args.edition c.args.next 0 c.args.bytes.now (sym c.is_blank.ensures ∙ c.if-is_blank.true)))
 
-pub returns-then-t-n : goal.returns-then-t-n
-returns-then-t-n c =
-    sym (front_long c.args.edition c.args.next c.byte_at-n.result c.args.t.now c.byte_at-n.ensures
-    (sym c.is_blank.ensures ∙ c.if-is_blank.false) c.if-t-n.true)
+pub returns-in_default : goal.returns-in_default
+returns-in_default c =
+    sym (front_none c.args.edition c.args.next c.in-Some.front.len c.args.bytes.now
+    (c.in-Some.front.first ∙ ap (λ (x : List ℕ). get_or x 0 0) c.in-Some.ensures.0)
+    (sym c.is_blank.ensures ∙ c.if-is_blank.false) (sym c.has_length.ensures ∙ c.if-has_length.false))
 
-pub returns-then-being_closed : goal.returns-then-being_closed
-returns-then-being_closed c =
-    sym (front_being c.args.edition c.args.next c.byte_at-n.result c.args.t.now c.byte_at-n.ensures (sym c.is_blank.ensures ∙ c.if-is_blank.false)
-    c.if-t-n.false (sym c.has_length.ensures ∙ c.if-has_length.true) (sym c.being_closed.ensures ∙ c.if-being_closed.true))
-
-pub read_layout-requires : goal.read_layout-requires
-read_layout-requires c =
-    (c.byte_at-n.ensures, sym c.has_length.ensures ∙ c.if-has_length.true, c.if-t-n.false, c.byte_at.ensures)
-
-pub returns-then-has_length : goal.returns-then-has_length
-returns-then-has_length c =
-    c.read_layout.ensures
-    ∙ sym (front_laid c.args.edition c.args.next c.byte_at-n.result c.args.t.now c.byte_at-n.ensures (sym c.is_blank.ensures ∙ c.if-is_blank.false)
-    c.byte_at.result c.byte_at.ensures c.if-t-n.false (sym c.has_length.ensures ∙ c.if-has_length.true)
-    (sym c.being_closed.ensures ∙ c.if-being_closed.false))
-
-pub returns : goal.returns
-returns c =
-    sym (front_none c.args.edition c.args.next c.byte_at-n.result c.args.t.now c.byte_at-n.ensures (sym c.is_blank.ensures ∙ c.if-is_blank.false)
-    (sym c.has_length.ensures ∙ c.if-has_length.false))
+pub returns-in_default-2 : goal.returns-in_default-2
+returns-in_default-2 c =
+    sym (front_long c.args.edition c.args.next (get_or c.args.bytes.now 0 0) c.args.bytes.now refl
+    (sym c.is_blank.ensures ∙ c.if-is_blank.false) (MatchOption-at_none _ _ c.in_default.is c.of.ensures))
