@@ -1,6 +1,6 @@
 -- A valid block's survey, from the pass and the tally.
 use Rattle.survey.specs.Pass.{found_survey}
-use Rattle.survey.proofs.block.found.Goals as goal
+use Rattle.survey.proofs.block.Block.found.Goals as goal
 
 pub returns : goal.returns
 unfolding found_survey

@@ -3,10 +3,10 @@ use mathlib.Core.Path.{◌≡◌}
 use Prim.Native.Nat.{◌-◌}
 use lib.ListN.{length, drop}
 use Rattle.survey.specs.Pass.{commit_heads, recommit}
-use Rattle.survey.proofs.pass.commit_own.Given as goal
+use Rattle.survey.proofs.pass.commit.Given as goal
 
 abbrev pub invariant-loop-at : goal.invariant-loop-at
-invariant-loop-at l = commit_heads l.edition l.host l.at 0 l.places (drop l.at l.part) ≡ recommit l.edition l.part l.host l.since l.initial.places
+invariant-loop-at l = commit_heads l.block.edition l.host l.at 0 l.places (drop l.at l.part) ≡ recommit l.block.edition l.part l.host l.initial.at l.initial.places
 
 abbrev pub decreases-loop-at : goal.decreases-loop-at
 decreases-loop-at l = length l.part - l.at

@@ -4,16 +4,15 @@ use native.Mathlib.Omega.{arith}
 use Rattle.survey.proofs.HeadLaws.{taken-end, reached_pending, reached_more, ends_blank, ends_torn, ends_wrong}
 use Rattle.fetch.proofs.FrameReads.{read-inside}
 use Rattle.survey.proofs.Passing.{reached-none}
-use Rattle.survey.proofs.block.walk.Goals as goal
+use Rattle.survey.proofs.block.Block.walk.Goals as goal
 
 pub loop-head-init : goal.loop-head-init
-loop-head-init c = reached-none _ _ _ _ c.requires.1 c.begin-p.ensures
+loop-head-init c = reached-none _ _ _ _ c.requires c.start-p.ensures
 
-pub take_frame-p-requires : goal.take_frame-p-requires
-take_frame-p-requires c = (
-  (read-inside c.args.edition c.loop-head.p.next c.loop-head.p.end c.args.block.now _
+pub take-p-requires : goal.take-p-requires
+take-p-requires c = (
+  (read-inside c.args.self.edition c.loop-head.p.next c.loop-head.p.end c.args.self.bytes.now _
       (sym c.read_frame.ensures ∙ c.in-Whole.is)).0,
-  c.requires.0,
   reached_pending _ c.loop-head.invariant,
 )
 
@@ -21,15 +20,15 @@ pub loop-head-smaller : goal.loop-head-smaller
 loop-head-smaller c =
     omega (
       arith,
-      taken-end _ _ _ _ c.take_frame-p.ensures.0,
-      read-inside c.args.edition c.loop-head.p.next c.loop-head.p.end c.args.block.now _
+      taken-end _ _ _ _ c.take-p.ensures.0,
+      read-inside c.args.self.edition c.loop-head.p.next c.loop-head.p.end c.args.self.bytes.now _
           (sym c.read_frame.ensures ∙ c.in-Whole.is),
     )
 
 pub loop-head-preserved : goal.loop-head-preserved
 loop-head-preserved c =
-    reached_more _ c.loop-head.invariant _ _ _ (sym c.read_frame.ensures ∙ c.in-Whole.is) c.take_frame-p.ensures.0
-    c.take_frame-p.ensures.1
+    reached_more _ c.loop-head.invariant _ _ _ (sym c.read_frame.ensures ∙ c.in-Whole.is) c.take-p.ensures.0
+    c.take-p.ensures.1
 
 pub returns-in-Blank : goal.returns-in-Blank
 returns-in-Blank c = ends_blank _ c.loop-head.invariant (sym c.read_frame.ensures ∙ c.in-Blank.is)
