@@ -20,7 +20,7 @@ use Rattle.board.specs.Mount.{or_foreign, none_valid}
 use Rattle.looks.specs.declared.looks.Newest.{Newest}
 use Rattle.std.specs.Prelude.{Option, Some}
 use Rattle.std.specs.List.{list_any}
-use Rattle.std.proofs.lemmas.List.{take_all}
+use Rattle.std.proofs.lemmas.List.{take_all, drop-set}
 use Rattle.looks.specs.declared.looks.Seen.{Seen}
 use Rattle.looks.specs.Surveys.{is_blank_kind, or_foreign_kind, pends_in}
 use Rattle.looks.specs.Seen.{others_in, some_of, kept_of, newest_in, tie_in, store_places, places_for, none_seen_of, has_time, no_older, takes_over, newer, tying, seeing}
@@ -106,11 +106,6 @@ tie-more x xs q same e f = rw (e, f) (on_test (same_time (time_of x) xs) (λ t. 
 
 -- ---- the arrays
 
-drop-set : {A : Type 0} (l : List A) (k : ℕ) (v : A) → k < length l → drop k (set l k v) ≡ v ∷ drop (suc k) l
-drop-set [] k v h = absurd (omega arith)
-drop-set (x ∷ l) zero v h = refl
-drop-set (x ∷ l) (suc k) v h = drop-set l k v (omega arith)
-
 no-time : (t m k : ℕ) → 0 < t → has_time t (drop k (replicate m 0)) ≡ false
 no-time t zero zero h = refl
 no-time t zero (suc k) h = refl
@@ -194,7 +189,7 @@ none_seen k p =
 
 module _ {k n : ℕ} {xs : List Found} {p : List ℕ} {z : Seen} {q : List ℕ} (h : k < max_blocks) (x : Seeing (suc k) n xs p z q) where
   times_next : (t u : ℕ) → 0 < t → has_time t (drop k (set z.times k u)) ≡ (eqb t u || same_time t (stores xs))
-  times_next t u l = rw (drop-set z.times k u (omega (arith, x.times_long)), x.times t l)
+  times_next t u l = rw (drop-set z.times k u (omega (arith, x.times_long)), add-one, x.times t l)
 
   others_next : (a : BlockState) (c : ℕ)
       → others_in c (set z.blanks k (is_blank_kind (kind_in a))) (numbers_from k (suc n)) ≡ wipe_list c (record { number = k; state = a } ∷ xs)

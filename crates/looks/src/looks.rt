@@ -29,7 +29,7 @@ pub struct Newest {
 
 #[derive(Clone, Copy)]
 pub struct Seen {
-    // each block's creation time, 0 if it isn't valid, and whether it is blank
+    // each block's creation time, 0 if it isn't valid, and whether it is blank: two arrays, since the one is searched and the other passed on, each alone
     pub times: [u32; MAX_BLOCKS],
     pub blanks: [bool; MAX_BLOCKS],
     // why no block is taken, if none is valid

@@ -17,7 +17,8 @@ pub fn is_valid(kind: BlockKind) -> bool
 pub fn sum(p: [u16; 4]) -> usize
     ensures { (result ≡ sum_of p) × (result ≤ 262140) }
 {
-    p[0] as usize + p[1] as usize + p[2] as usize + p[3] as usize
+    let [a, b, c, d] = p;
+    usize::from(a) + usize::from(b) + usize::from(c) + usize::from(d)
 }
 
 // A transfer is needed, and there is no later time.
