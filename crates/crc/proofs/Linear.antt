@@ -3,8 +3,8 @@ use mathlib.Core.Path.{◌≡◌, refl, sym, ap, ap₂, ◌∙◌}
 use Prim.Native.Nat.{ℕ, zero, suc, ◌+◌, ◌*◌, ◌/◌, ◌%◌, ◌^◌, ◌<◌}
 use native.Mathlib.Nat.{zero-mul, mul-one, mul_assoc, pow-suc}
 use native.Mathlib.Omega.{arith}
-use lib.Arith.{bin_ind}
 use lib.Bits.{bit_xor, xor_zero_r, xor_comm, xor_self, xor_shr, xor_mod, xor_shifted}
+use Rattle.std.specs.Int.Bits.{xor_assoc}
 use Rattle.crc.specs.Crc.{times, shift32, shifted32}
 
 -- what holds of 0 and of 1 holds of a lowest bit
@@ -15,24 +15,6 @@ bit P p q a = of (a % 2) (omega arith)
     of zero h = p
     of (suc zero) h = q
     of (suc (suc r)) h = absurd (omega (arith, h))
-
-bits_assoc : (a b c : ℕ) → bit_xor (bit_xor (a % 2) (b % 2)) (c % 2) ≡ bit_xor (a % 2) (bit_xor (b % 2) (c % 2))
-bits_assoc a b c =
-    bit (λ r. bit_xor (bit_xor r (b % 2)) (c % 2) ≡ bit_xor r (bit_xor (b % 2) (c % 2))) refl
-    (bit (λ s. bit_xor (bit_xor 1 s) (c % 2) ≡ bit_xor 1 (bit_xor s (c % 2))) refl
-    (bit (λ t. bit_xor (bit_xor 1 1) t ≡ bit_xor 1 (bit_xor 1 t)) refl refl c) b) a
-
-by_halves : (x y : ℕ) → x / 2 ≡ y / 2 → x % 2 ≡ y % 2 → x ≡ y
-by_halves x y h i = omega (arith, h, i)
-
-xor_assoc : (a b c : ℕ) → bit_xor (bit_xor a b) c ≡ bit_xor a (bit_xor b c)
-xor_assoc =
-    bin_ind (λ (a : ℕ). (b c : ℕ) → bit_xor (bit_xor a b) c ≡ bit_xor a (bit_xor b c)) (λ b c. refl)
-    (λ a ih b c. by_halves (bit_xor (bit_xor a b) c) (bit_xor a (bit_xor b c))
-    (xor_shr (bit_xor a b) c 1 ∙ ap (λ x. bit_xor x (c / 2)) (xor_shr a b 1) ∙ ih (b / 2) (c / 2)
-    ∙ sym (xor_shr a (bit_xor b c) 1 ∙ ap (bit_xor (a / 2)) (xor_shr b c 1)))
-    (xor_mod (bit_xor a b) c 1 ∙ ap (λ x. bit_xor x (c % 2)) (xor_mod a b 1) ∙ bits_assoc a b c
-    ∙ sym (xor_mod a (bit_xor b c) 1 ∙ ap (bit_xor (a % 2)) (xor_mod b c 1))))
 
 -- (w ^ x) ^ (y ^ z) = (w ^ y) ^ (x ^ z)
 swap : (w x y z : ℕ) → bit_xor (bit_xor w x) (bit_xor y z) ≡ bit_xor (bit_xor w y) (bit_xor x z)

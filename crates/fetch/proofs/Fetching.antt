@@ -7,7 +7,7 @@ use Prim.Native.Nat.{ℕ, zero, suc, ◌+◌, ◌-◌, ◌≤◌, ◌<◌}
 use native.Mathlib.Omega.{arith}
 use lib.Dec.{eqb}
 use lib.ListN.{length, get_or, take, drop}
-use lib.Seq.{take-length, take_all}
+use lib.Seq.{take-length}
 use borrow.Author.Tests.{ne_eqb}
 use Rattle.flash.proofs.Cases.{on_test}
 use Rattle.frame.specs.declared.Edition.{Edition}
@@ -19,7 +19,8 @@ use Rattle.frame.specs.Code.{head_of, peek_at, value_of, value_len_of, value_sta
 use Rattle.frame.proofs.Encode.{NotClosed}
 use Rattle.frame.proofs.Heads.{value_len, peek_whole}
 use Rattle.frame.proofs.Exact.{read-blank}
-use Rattle.std.specs.Prelude.{Some, None}
+use Rattle.std.specs.Prelude.{Some, None, MatchOption}
+use Rattle.std.specs.declared.option.Option as answer
 use Rattle.fetch.specs.declared.Found.{Found}
 use Rattle.fetch.specs.declared.Fetch.{Fetch}
 use Rattle.journal.specs.Index.{Value, only_if, frame_value, value_read, value_at, Load, load, next_settled, is_pending, next_pending, or_else, next_load_of}
@@ -244,21 +245,17 @@ module _ (ed : Edition) (b : List ℕ) (end : ℕ) (places since : List ℕ) (id
   abbrev second : Option Load
   second = next_pending ed since source 0 (drop source (take end b))
 
-  pub load_first : (x : Fetch) → Some x ≡ fetched_of ed b places first → Some x ≡ fetched_of ed b places all
+  -- the answer that the code takes of both
+  pub load_either : (o r : answer.Option Fetch) (S : Type 0) → o ≡ fetched_of ed b places first → MatchOption o S (λ x. r ≡ Some x)
+      → (S → r ≡ fetched_of ed b places second) → r ≡ fetched_of ed b places all
   unfolding next_load_of fetched_of
-  load_first x e = go first e
+  load_either None r S e m k = go first e
     where
-      go : (o : Option Load) → Some x ≡ fetched_of ed b places o → Some x ≡ fetched_of ed b places (or_else o second)
-      go none q = let z : ◌≡◌ {A = ℕ} 0 1 = cc in absurd (omega arith)
-      go (some u) q = q
-
-  pub load_part_next : None ≡ fetched_of ed b places first → second ≡ all
-  unfolding next_load_of fetched_of
-  load_part_next e = go first e
+      go : (l : Option Load) → None ≡ fetched_of ed b places l → r ≡ fetched_of ed b places (or_else l second)
+      go none q = k m
+      go (some u) q = cc
+  load_either (Some x) r S e m k = go first e
     where
-      go : (o : Option Load) → None ≡ fetched_of ed b places o → second ≡ or_else o second
-      go none q = refl
-      go (some u) q = let z : ◌≡◌ {A = ℕ} 0 1 = cc in absurd (omega arith)
-
-  pub load_next : None ≡ fetched_of ed b places first → length b ≤ end → next_pending ed since source 0 (drop source b) ≡ all
-  load_next e l = ap (λ (x : List ℕ). next_pending ed since source 0 (drop source x)) (sym (take_all end b l)) ∙ load_part_next e
+      go : (l : Option Load) → Some x ≡ fetched_of ed b places l → r ≡ fetched_of ed b places (or_else l second)
+      go none q = cc
+      go (some u) q = m ∙ q

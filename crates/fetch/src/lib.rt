@@ -33,11 +33,11 @@ fn value_in(id: ObjectId, place: u16, head: Head) -> Option<Found>
     ensures { result ≡ value_head id place head }
 {
     match head {
-        Head::Put(_, i, size) if id.0 == i.0 => Some(Found {
+        Head::Put(_, i, size) if i == id => Some(Found {
             at: place as usize + PUT_VALUE_AT,
             size,
         }),
-        Head::Settled(i, size) if id.0 == i.0 => Some(Found {
+        Head::Settled(i, size) if i == id => Some(Found {
             at: place as usize + SETTLED_VALUE_AT,
             size,
         }),
@@ -127,12 +127,10 @@ pub fn next_load(
     ensures { result ≡ fetched_of edition block.now places.now
         (next_load_of edition block.now end places.now since id source) }
 {
-    if let Some(fetch) = next_settled(block, edition, places, id, source) {
-        return Some(fetch);
-    }
-    let e = end as usize;
-    if block.len() <= e {
-        return next_pending(block, edition, since, source);
-    }
-    next_pending(&block[..e], edition, since, source)
+    next_settled(block, edition, places, id, source).or_else(|| next_pending(
+        flash::front(block, end as usize),
+        edition,
+        since,
+        source,
+    ))
 }

@@ -143,8 +143,7 @@ pub fn frame_len(edition: Edition, head: Head) -> usize
     match head {
         Head::Put(_, _, n) => PUT_LEN as usize + check + n as usize,
         Head::Delete(_, _) => DELETE_LEN as usize + check,
-        Head::Commit(_) => END_LEN as usize + check,
-        Head::Abort(_) => END_LEN as usize + check,
+        Head::Commit(_) | Head::Abort(_) => END_LEN as usize + check,
         Head::Settled(_, n) => SETTLED_LEN as usize + check + n as usize,
         Head::Closed(n) => RESET_LEN as usize + n as usize,
         Head::Reset => RESET_LEN as usize + check,
@@ -156,13 +155,8 @@ pub fn value_len(head: Head) -> usize
     ensures { result ≡ value_len_of head }
 {
     match head {
-        Head::Put(_, _, n) => n as usize,
-        Head::Delete(_, _) => 0,
-        Head::Commit(_) => 0,
-        Head::Abort(_) => 0,
-        Head::Settled(_, n) => n as usize,
-        Head::Closed(n) => n as usize,
-        Head::Reset => 0,
+        Head::Put(_, _, n) | Head::Settled(_, n) | Head::Closed(n) => n as usize,
+        Head::Delete(_, _) | Head::Commit(_) | Head::Abort(_) | Head::Reset => 0,
     }
 }
 
@@ -172,11 +166,8 @@ pub fn value_offset(head: Head) -> usize
 {
     match head {
         Head::Put(_, _, _) => PUT_VALUE_AT,
-        Head::Delete(_, _) => 0,
-        Head::Commit(_) => 0,
-        Head::Abort(_) => 0,
         Head::Settled(_, _) => SETTLED_VALUE_AT,
         Head::Closed(_) => BODY_AT,
-        Head::Reset => 0,
+        Head::Delete(_, _) | Head::Commit(_) | Head::Abort(_) | Head::Reset => 0,
     }
 }

@@ -7,20 +7,16 @@ ghost use Rattle.edge.specs.Edge.{told, edge_next};
 use board::Next;
 use edge::WRONG_RECORD;
 use lent::RECORD_SIZE;
-use midframe::Found;
 
 // In the middle of a frame, or by the record's numbers.
 fn next_in(len: usize, blocks: u8, board: &[u8]) -> Next
     ensures { result ≡ next_on blocks len (record_in board.now) }
 {
-    let found = midframe::try_next(len, blocks, board);
-    match found {
-        Found::Byte(_, at, byte) => return Next::Program(at, byte),
-        Found::Nothing => {
-            let n = unpack::numbers(board);
-            return drive::next_of(len, blocks, n, unpack::in_hand(n, board));
-        }
+    if let Some(found) = midframe::try_next(len, blocks, board) {
+        return Next::Program(found.at, found.byte);
     }
+    let n = unpack::numbers(board);
+    drive::next_of(len, blocks, n, unpack::in_hand(n, board))
 }
 
 #[unsafe(no_mangle)]

@@ -7,12 +7,11 @@ use native.Mathlib.Nat.{add-zero}
 use native.Mathlib.Numerals.{add-one}
 use lib.ListN.{length, get_or, take, drop, set, length-append}
 use lib.Seq.{take-suc-set, take_all, drop-drop, get_or-drop}
-use Rattle.flash.specs.Bytes.{Bytes, u16le, u32le}
+use Rattle.flash.specs.Bytes.{Bytes, u16le}
 use Rattle.flash.proofs.Blank.{le16_u16}
 use Rattle.wire.specs.Message.{word_at}
 use Rattle.board.specs.declared.Job.{Job}
-use Rattle.board.specs.declared.Record.{Record}
-use Rattle.lent.specs.Layout.{plan_size, words_in, phase_byte, word_bytes, flag_byte, head_bytes_of, plan_bytes, Words}
+use Rattle.lent.specs.Layout.{plan_size, words_in, word_bytes, plan_bytes, Words}
 
 -- one word more, at the end
 next_word : (n : ℕ) (l : List ℕ) → words_in (suc n) l ≡ words_in n l ++ (word_at (drop (2 * n) l) 0 ∷ [])
@@ -22,9 +21,9 @@ next_word (suc n) l =
     let e : 2 + 2 * n ≡ 2 * suc n = omega arith in
     ap (λ (t : List ℕ). word_at l 0 ∷ t) (next_word n (drop 2 l)) ∙ rw (drop-drop (2 * n) 2 l, e)
 
--- a word by its two bytes
-pub word_there : (l : List ℕ) (i : ℕ) → get_or l (2 * i) 0 + 256 * get_or l (2 * i + 1) 0 ≡ word_at (drop (2 * i) l) 0
-word_there l i = rw (get_or-drop (2 * i) l 0 0, get_or-drop (2 * i) l 1 0, add-zero) (omega arith)
+-- the first word past some bytes
+first_past : (k : ℕ) (l : List ℕ) → word_at (drop k l) 0 ≡ word_at l k
+first_past k l = rw (get_or-drop k l 0 0, get_or-drop k l 1 0, add-zero)
 
 -- one of n words, and of those from a place on
 word_of : (n : ℕ) (l : List ℕ) (i : ℕ) → i < n → get_or (words_in n l) i 0 ≡ word_at l (2 * i)
@@ -42,9 +41,9 @@ word_from at n l i h =
     sym (word_of n (drop at l) i h ∙ rw (get_or-drop at l (2 * i) 0, get_or-drop at l (2 * i + 1) 0, e))
 
 -- the array with its first i words read; w is the next one
-pub read_more : (l a : List ℕ) (i w : ℕ) → take i a ≡ words_in i l → i < length a → w ≡ word_at (drop (2 * i) l) 0
+pub read_more : (l a : List ℕ) (i w : ℕ) → take i a ≡ words_in i l → i < length a → w ≡ word_at l (2 * i)
     → take (i + 1) (set a i w) ≡ words_in (i + 1) l
-read_more l a i w e h v = rw (add-one, take-suc-set a i w h, e, v, next_word)
+read_more l a i w e h v = rw (add-one, take-suc-set a i w h, e, v, ← first_past (2 * i) l, next_word)
 
 pub read_all : (l a : List ℕ) (i : ℕ) → take i a ≡ words_in i l → i ≡ 256 → length a ≡ 256 → a ≡ words_in 256 l
 read_all l a i e h k = rw (take_all i a (omega arith), h) at e
@@ -58,35 +57,6 @@ pub next_word_bytes : (ws : List ℕ) (w : ℕ) → word_bytes (ws ++ (w ∷ [])
 unfolding word_bytes
 next_word_bytes [] w = refl
 next_word_bytes (v ∷ ws) w = ap (λ (t : List ℕ). u16le v ++ t) (next_word_bytes ws w)
-
--- four words by their bytes
-pub four_words : (s : List ℕ) → length s ≡ 4 → (a₀ b₀ a₁ b₁ a₂ b₂ a₃ b₃ : ℕ)
-    → a₀ ≡ get_or s 0 0 % 256 → b₀ ≡ get_or s 0 0 / 256 → a₁ ≡ get_or s 1 0 % 256 → b₁ ≡ get_or s 1 0 / 256
-    → a₂ ≡ get_or s 2 0 % 256 → b₂ ≡ get_or s 2 0 / 256 → a₃ ≡ get_or s 3 0 % 256 → b₃ ≡ get_or s 3 0 / 256
-    → a₀ ∷ b₀ ∷ a₁ ∷ b₁ ∷ a₂ ∷ b₂ ∷ a₃ ∷ b₃ ∷ [] ≡ word_bytes s
-unfolding word_bytes
-four_words s q a₀ b₀ a₁ b₁ a₂ b₂ a₃ b₃ e₀ f₀ e₁ f₁ e₂ f₂ e₃ f₃ = rw (e₀, f₀, e₁, f₁, e₂, f₂, e₃, f₃) (go s q)
-  where
-    go : (s : List ℕ) → length s ≡ 4
-        → u16le (get_or s 0 0) ++ (u16le (get_or s 1 0) ++ (u16le (get_or s 2 0) ++ u16le (get_or s 3 0))) ≡ word_bytes s
-    go [] e = absurd (omega arith)
-    go (a ∷ []) e = absurd (omega arith)
-    go (a ∷ b ∷ []) e = absurd (omega arith)
-    go (a ∷ b ∷ c ∷ []) e = absurd (omega arith)
-    go (a ∷ b ∷ c ∷ d ∷ []) e = refl
-    go (a ∷ b ∷ c ∷ d ∷ x ∷ s) e = absurd (omega arith)
-
--- the bytes before the places, one by one
-pub head-is : (r : Record) (p l₀ l₁ e₀ e₁ : ℕ) (s : List ℕ) → p ≡ phase_byte r.phase → l₀ ≡ r.rest.last % 256 → l₁ ≡ r.rest.last / 256
-    → e₀ ≡ r.rest.end % 256 → e₁ ≡ r.rest.end / 256 → s ≡ word_bytes r.rest.pending
-    → p ∷ l₀ ∷ l₁ ∷ r.rest.block ∷ e₀ ∷ e₁ ∷ r.rest.blocks ∷ (s ++ (r.rest.edition ∷ [])) ≡ head_bytes_of r
-head-is r p l₀ l₁ e₀ e₁ s ep f₀ f₁ g₀ g₁ h = rw (ep, f₀, f₁, g₀, g₁, h)
-
--- a plan's bytes, one by one
-pub plan-is : (j : Job) (m d : ℕ) (s c : List ℕ) → m ≡ flag_byte j.moves → d ≡ flag_byte j.drops → s ≡ word_bytes j.since
-    → c ≡ word_bytes j.close
-    → j.wipes ∷ m ∷ d ∷ j.target ∷ (u32le j.time ++ (s ++ (j.size ∷ j.edition ∷ j.closes ∷ c))) ≡ plan_bytes j
-plan-is j m d s c em ed es ec = rw (em, ed, es, ec)
 
 pub length-plan : (j : Job) → length j.since ≡ 4 → length j.close ≡ 4 → length (plan_bytes j) ≡ plan_size
 length-plan j q p = simp (length-append, length_word_bytes) (omega arith)

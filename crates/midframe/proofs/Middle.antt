@@ -7,6 +7,7 @@ use native.Mathlib.Omega.{arith}
 use lib.ListN.{length, length-set, get_or, set, drop}
 use lib.Seq.{drop-drop, get_or-drop}
 use borrow.Author.Tests.{eq-eqb, lt-ltb}
+use Rattle.std.specs.Prelude.{Option, Some, None, IfSome}
 use Rattle.flash.specs.Flash.{max_blocks, Step, program, program_at, size_in, within}
 use Rattle.flash.proofs.Cases.{on_test, and_both}
 use Rattle.flash.specs.Bytes.{le16}
@@ -30,9 +31,8 @@ use Rattle.lent.specs.Layout.{phase_in, record_in, record_bytes}
 use Rattle.lent.proofs.Inverse.{Sized, record_back}
 use Rattle.lent.proofs.Own.{own-sized}
 use Rattle.lent.proofs.Canonical.{Canonical, at_cursor, byte_copied, byte_appended}
-use Rattle.midframe.specs.declared.Aim.TheVariants.{At}
+use Rattle.midframe.specs.declared.Aim.{Aim}
 use Rattle.midframe.specs.declared.Found.{Found}
-use Rattle.midframe.specs.declared.Found.TheVariants.{Nothing, Byte}
 use Rattle.midframe.specs.Code.{Stands, Aims, Lies, Ready, Finds, Made, Tried}
 
 pub nothing : (o : Out) (img b img' b' : List ℕ) → img' ≡ img → b' ≡ b → Tried o false img b img' b'
@@ -103,50 +103,58 @@ module _ (b : List ℕ) where
 
   -- the byte of either frame
   pub copy_is : (off at block v : ℕ) → get_or b 0 0 ≡ 4 → off ≡ get_or b (cursor_at + off_at) 0 → at ≡ word_at b (cursor_at + made_at)
-      → block ≡ get_or b (plan_at + target_at) 0 → v ≡ get_or (record_in b).unit off 0 → Aims b (At Copy block at v)
+      → block ≡ get_or b (plan_at + target_at) 0 → v ≡ get_or (record_in b).unit off 0 → Aims b (record { stage = Copy; block = block; at = at; byte = v })
   copy_is off at block v p eo ea ek ev =
-      let fo : off ≡ (record_in b).cursor.off = eo ∙ sym off_is in (
-        rw p (omega arith),
-        phase_is 4 p,
-        ap (program block at) ev ∙ (λ j. program ((ek ∙ sym target_is) j) ((ea ∙ sym at_is) j) (get_or (record_in b).unit (fo j) 0)),
-      )
+      let fo : off ≡ (record_in b).cursor.off = eo ∙ sym off_is in
+      record {
+        phase = rw p (omega arith);
+        busy = phase_is 4 p;
+        acts = ap (program block at) ev ∙ (λ j. program ((ek ∙ sym target_is) j) ((ea ∙ sym at_is) j) (get_or (record_in b).unit (fo j) 0));
+      }
 
   pub append_at : (index at block v : ℕ) → get_or b 0 0 ≡ 7 → index ≡ get_or b cursor_at 0 → at ≡ word_at b end_at + index → block ≡ get_or b block_at 0
-      → v ≡ get_or (record_in b).frame index 0 → Aims b (At Append block at v)
+      → v ≡ get_or (record_in b).frame index 0 → Aims b (record { stage = Append; block = block; at = at; byte = v })
   append_at index at block v p ei ea ek ev =
-      let fi : index ≡ (record_in b).cursor.index = ei ∙ sym index_is in (
-        rw p (omega arith),
-        phase_is 7 p,
-        ap (program block at) ev
-            ∙ (λ j. program ((ek ∙ sym block_is) j) ((ea ∙ (λ k. sym end_is k + fi k)) j) (get_or (record_in b).frame (fi j) 0)),
-      )
+      let fi : index ≡ (record_in b).cursor.index = ei ∙ sym index_is in
+      record {
+        phase = rw p (omega arith);
+        busy = phase_is 7 p;
+        acts = ap (program block at) ev
+            ∙ (λ j. program ((ek ∙ sym block_is) j) ((ea ∙ (λ k. sym end_is k + fi k)) j) (get_or (record_in b).frame (fi j) 0));
+      }
 
 -- ---- what is next
 
 -- what is found at a place in the image is next
-pub finds : (N n : ℕ) (b : List ℕ) (s : Stage) (k o v : ℕ) (f : Found) → ((i : ℕ) → get_or b i 0 < 256) → length b ≡ record_size → Stands N b n
-    → Aims b (At s k o v) → Lies N n s (program k o v) f → Finds N n b f
+finds : (N n : ℕ) (b : List ℕ) (a : Aim) (f : Found) → ((i : ℕ) → get_or b i 0 < 256) → length b ≡ record_size → Stands N b n
+    → Aims b a → Lies N n a f → Finds N n b f
 unfolding next_on
-finds N n b s k o v Nothing ok size t a l = tt
-finds N n b s k o v (Byte q at w) ok size t a l =
+finds N n b a f ok size t aims l =
     let r = record_in b in
-    let in' : within N (size_in N n) (action s r) ≡ true = subst (λ (y : Step). within N (size_in N n) y ≡ true) a.2 l.1 in
+    let s = a.stage in
+    let in' : within N (size_in N n) (action s r) ≡ true = subst (λ (y : Step). within N (size_in N n) y ≡ true) aims.acts l.inside in
     let h = in_parts N (size_in N n) (action s r) in' in
     let shape : same_shape N n r ≡ true = and_both _ _ (eq-eqb _ _ (last_is b n t.fits)) (eq-eqb _ _ (count_is b N t.count)) in
     let low : Ready b s = record {
       size = size;
-      busy = a.1;
-      phase = a.0;
+      busy = aims.busy;
+      phase = aims.phase;
       moves = t.moves;
       drops = t.drops;
       low = omega (arith, t.fits, ok last_at, ok (last_at + 1), h.2, size_low N n h.0);
-    } in (
-      subst (Ready b) (sym l.0) low,
-      ap (λ (p : Phase). next_in N p n r) a.1
+    } in
+    record {
+      ready = subst (Ready b) (sym l.stage) low;
+      next = ap (λ (p : Phase). next_in N p n r) aims.busy
           ∙ ap (λ (k : Bool). cond k (placed (size_in N n) (action s r)) (next.Refused refusal.Stale)) (and_both _ _ shape in')
-          ∙ ap (placed (size_in N n)) (sym a.2)
-          ∙ l.2,
-    )
+          ∙ ap (placed (size_in N n)) (sym aims.acts)
+          ∙ l.place;
+    }
+
+pub finds_if : (N n : ℕ) (b : List ℕ) (a : Aim) (o : Option Found) → ((i : ℕ) → get_or b i 0 < 256) → length b ≡ record_size → Stands N b n
+    → Aims b a → IfSome o (Lies N n a) → IfSome o (Finds N n b)
+finds_if N n b a None ok size t aims l = tt
+finds_if N n b a (Some f) ok size t aims l = finds N n b a f ok size t aims l
 
 -- ---- it is made
 
@@ -216,7 +224,7 @@ module _ (b b' : List ℕ) (ok : (i : ℕ) → get_or b i 0 < 256) where
 
   -- of the frame that is copied
   pub copied : (off n at low high : ℕ) → Ready b Copy → off ≡ get_or b (cursor_at + off_at) 0 → n ≡ get_or b (cursor_at + copy_at) 0 → off + 1 < n
-      → at ≡ word_at b (cursor_at + made_at) → low ≡ (at + 1) % 256 → high ≡ (at + 1) / 256
+      → at ≡ word_at b (cursor_at + made_at) → low ≡ (at + 1) % 256 → high ≡ (at + 1) / 256 % 256
       → b' ≡ set (set (set b (cursor_at + made_at) low) (cursor_at + (made_at + 1)) high) (cursor_at + off_at) (off + 1)
       → (N : ℕ) (img : List ℕ) → Tried (stepped img (advance N Copy img (record_in b))) true img b img b'
   copied off n at low high y eo en h ea el eh e N img =
@@ -228,7 +236,7 @@ module _ (b b' : List ℕ) (ok : (i : ℕ) → get_or b i 0 < 256) where
       let fa : c.at ≡ at = at_is b ∙ sym ea in
       let q : at + 1 ≡ suc c.at = omega (arith, fa) in
       let el' = el ∙ ap (λ (k : ℕ). k % 256) q in
-      let eh' = eh ∙ ap (λ (k : ℕ). k / 256) q in
+      let eh' : high ≡ suc c.at / 256 = omega (arith, eh, q, counts_on at y ea) in
       let eo' : off + 1 ≡ suc c.off = omega (arith, fo) in
       done _ _ _ _ _ (goes_on N img Copy (next_byte c) y (copy-on N r img (omega (arith, fo, fn)))
       (e ∙ (λ j. set (set (set b (cursor_at + made_at) (el' j)) (cursor_at + (made_at + 1)) (eh' j)) (cursor_at + off_at) (eo' j))

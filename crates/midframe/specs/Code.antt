@@ -11,9 +11,7 @@ use Rattle.board.specs.Step.{action}
 use Rattle.board.specs.Drive.{placed, next_on}
 use Rattle.lent.specs.Layout.{moves_at, drops_at, last_at, blocks_at, plan_at, record_size, record_in, record_bytes}
 use Rattle.midframe.specs.declared.Aim.{Aim}
-use Rattle.midframe.specs.declared.Aim.TheVariants.{Nowhere, At}
 use Rattle.midframe.specs.declared.Found.{Found}
-use Rattle.midframe.specs.declared.Found.TheVariants.{Nothing, Byte}
 
 -- a record's bytes for an image of N blocks and n bytes, with flags that stand as they are written
 pub record Stands (N : ℕ) (b : List ℕ) (n : ℕ) : Type 0 where
@@ -22,15 +20,21 @@ pub record Stands (N : ℕ) (b : List ℕ) (n : ℕ) : Type 0 where
   pub count : N ≡ get_or b blocks_at 0
   pub fits : n ≡ suc (word_at b last_at)
 
--- the byte that is next in a frame
-abbrev pub Aims : List ℕ → Aim → Type 0
-Aims b Nowhere = Unit {0}
-Aims b (At s k o v) = (get_or b 0 0 < 9) × ((record_in b).phase ≡ Busy s) × (program k o v ≡ action s (record_in b))
+-- the flash step that it is
+abbrev pub step_of : Aim → Step
+step_of a = program a.block a.at a.byte
 
--- a flash step by its place in an image of N blocks and n bytes, if that lies in it
-abbrev pub Lies : ℕ → ℕ → Stage → Step → Found → Type 0
-Lies N n s x Nothing = Unit {0}
-Lies N n s x (Byte t at v) = (t ≡ s) × (within N (size_in N n) x ≡ true) × (placed (size_in N n) x ≡ Program at v)
+-- the byte that is next in a frame
+pub record Aims (b : List ℕ) (a : Aim) : Type 0 where
+  pub phase : get_or b 0 0 < 9
+  pub busy : (record_in b).phase ≡ Busy a.stage
+  pub acts : step_of a ≡ action a.stage (record_in b)
+
+-- the same by its place in an image of N blocks and n bytes, in which that lies
+pub record Lies (N n : ℕ) (a : Aim) (f : Found) : Type 0 where
+  pub stage : f.stage ≡ a.stage
+  pub inside : within N (size_in N n) (step_of a) ≡ true
+  pub place : placed (size_in N n) (step_of a) ≡ Program f.at f.byte
 
 -- a record's bytes in a stage, with phase and flags that stand as they are written and an offset that can be counted on
 pub record Ready (b : List ℕ) (s : Stage) : Type 0 where
@@ -42,9 +46,9 @@ pub record Ready (b : List ℕ) (s : Stage) : Type 0 where
   pub low : offset_of (action s (record_in b)) < 32768
 
 -- the byte that is next, on an image of N blocks and n bytes
-abbrev pub Finds : ℕ → ℕ → List ℕ → Found → Type 0
-Finds N n b Nothing = Unit {0}
-Finds N n b (Byte s at v) = Ready b s × (next_on N n (record_in b) ≡ Program at v)
+pub record Finds (N n : ℕ) (b : List ℕ) (f : Found) : Type 0 where
+  pub ready : Ready b f.stage
+  pub next : next_on N n (record_in b) ≡ Program f.at f.byte
 
 -- a call that answers more, on the record's bytes
 pub record Made (o : Out) (b img' b' : List ℕ) : Type 0 where

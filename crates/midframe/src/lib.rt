@@ -1,8 +1,7 @@
 // The middle of a frame, where most of all steps are: what is next there, and the cursor that counts it. Nothing else of the record's bytes changes.
 #![tactic(auto)]
 
-ghost use Rattle.std.specs.Prelude.{◌≡◌, true, List, ℕ, length};
-ghost use Rattle.flash.specs.Flash.{program};
+ghost use Rattle.std.specs.Prelude.{◌≡◌, true, List, ℕ, length, IfSome};
 ghost use Rattle.board.specs.declared.Stage.TheVariants.{Copy, Append};
 ghost use Rattle.board.specs.Step.{advance, stepped, step_on};
 ghost use Rattle.board.specs.Drive.{made_on};
@@ -18,18 +17,21 @@ const COPY: u8 = 4;
 
 const APPEND: u8 = 7;
 
-// A byte of a frame to program: its stage, block, offset there and itself.
+// A byte of a frame to program, in which stage, and its offset in its block.
 #[derive(Clone, Copy)]
-enum Aim {
-    Nowhere,
-    At(Stage, u8, usize, u8),
+struct Aim {
+    stage: Stage,
+    block: u8,
+    at: usize,
+    byte: u8,
 }
 
 // The same by its place in the image.
 #[derive(Clone, Copy)]
-pub enum Found {
-    Nothing,
-    Byte(Stage, usize, u8),
+pub struct Found {
+    pub stage: Stage,
+    pub at: usize,
+    pub byte: u8,
 }
 
 // ---- what is next
@@ -38,65 +40,66 @@ pub enum Found {
 fn stands(board: &[u8], len: usize, blocks: u8) -> bool
     ensures { result ≡ true → Stands blocks board.now len }
 {
-    if 1 < byte_at(board, PLAN_AT + lent::MOVES_AT) {
-        return false;
-    }
-    if 1 < byte_at(board, PLAN_AT + lent::DROPS_AT) {
-        return false;
-    }
-    if byte_at(board, BLOCKS_AT) != blocks {
-        return false;
-    }
-    len == unpack::word_in(board, LAST_AT) as usize + 1
+    byte_at(board, PLAN_AT + lent::MOVES_AT) < 2
+        && byte_at(board, PLAN_AT + lent::DROPS_AT) < 2
+        && byte_at(board, BLOCKS_AT) == blocks
+        && len == unpack::word_in(board, LAST_AT) as usize + 1
 }
 
 // The byte that is next in a frame.
-fn spot(board: &[u8]) -> Aim
-    ensures { Aims board.now result }
+fn spot(board: &[u8]) -> Option<Aim>
+    ensures { IfSome result (Aims board.now) }
 {
-    let phase = byte_at(board, 0);
-    if phase == COPY {
-        let off = byte_at(board, CURSOR_AT + lent::OFF_AT);
-        let at = unpack::word_in(board, CURSOR_AT + lent::MADE_AT) as usize;
-        let target = byte_at(board, PLAN_AT + lent::TARGET_AT);
-        return Aim::At(Stage::Copy, target, at, unpack::unit_byte(board, off));
+    match byte_at(board, 0) {
+        COPY => {
+            let off = byte_at(board, CURSOR_AT + lent::OFF_AT);
+            Some(Aim {
+                stage: Stage::Copy,
+                block: byte_at(board, PLAN_AT + lent::TARGET_AT),
+                at: unpack::word_in(board, CURSOR_AT + lent::MADE_AT) as usize,
+                byte: unpack::unit_byte(board, off),
+            })
+        }
+        APPEND => {
+            let index = byte_at(board, CURSOR_AT);
+            Some(Aim {
+                stage: Stage::Append,
+                block: byte_at(board, BLOCK_AT),
+                at: unpack::word_in(board, END_AT) as usize + index as usize,
+                byte: unpack::append_byte(board, index),
+            })
+        }
+        _ => None,
     }
-    if phase == APPEND {
-        let index = byte_at(board, CURSOR_AT);
-        let at = unpack::word_in(board, END_AT) as usize + index as usize;
-        let block = byte_at(board, BLOCK_AT);
-        return Aim::At(Stage::Append, block, at, unpack::append_byte(board, index));
-    }
-    Aim::Nowhere
 }
 
 // A byte by its place in the image, where that lies in it.
-fn placed(len: usize, blocks: u8, stage: Stage, block: u8, at: usize, byte: u8) -> Found
-    ensures { Lies blocks len stage (program block at byte) result }
+fn placed(len: usize, blocks: u8, aim: Aim) -> Option<Found>
+    ensures { IfSome result (Lies blocks len aim) }
 {
+    let Aim {
+        stage,
+        block,
+        at,
+        byte,
+    } = aim;
     let size = flash::size_of(blocks, len);
-    if !job::lies_in(blocks, size, block, at) {
-        return Found::Nothing;
+    if job::lies_in(blocks, size, block, at) {
+        let at = block as usize * size + at;
+        return Some(Found { stage, at, byte });
     }
-    Found::Byte(stage, block as usize * size + at, byte)
+    None
 }
 
 // Inner part of grommetide_next, which goes on by the record's numbers where nothing is found. The byte that is next, if the record is in a frame
 // and its flags stand as they are written. That it is the faster way is not promised: one that always finds nothing would do.
-pub fn try_next(len: usize, blocks: u8, board: &[u8]) -> Found
-    ensures { Finds blocks len board.now result }
+pub fn try_next(len: usize, blocks: u8, board: &[u8]) -> Option<Found>
+    ensures { IfSome result (Finds blocks len board.now) }
 {
-    if board.len() != RECORD_SIZE {
-        return Found::Nothing;
+    if board.len() != RECORD_SIZE || !stands(board, len, blocks) {
+        return None;
     }
-    if !stands(board, len, blocks) {
-        return Found::Nothing;
-    }
-    let aim = spot(board);
-    match aim {
-        Aim::Nowhere => return Found::Nothing,
-        Aim::At(stage, block, at, byte) => return placed(len, blocks, stage, block, at, byte),
-    }
+    placed(len, blocks, spot(board)?)
 }
 
 // ---- the cursor counts it, unless it is the frame's last
@@ -111,8 +114,9 @@ fn count_copied(board: &mut [u8]) -> bool
         return false;
     }
     let next = unpack::word_in(board, CURSOR_AT + lent::MADE_AT) + 1;
-    board[CURSOR_AT + lent::MADE_AT] = pack::low(next);
-    board[CURSOR_AT + (lent::MADE_AT + 1)] = pack::high(next);
+    let [low, high] = next.to_le_bytes();
+    board[CURSOR_AT + lent::MADE_AT] = low;
+    board[CURSOR_AT + lent::MADE_AT + 1] = high;
     board[CURSOR_AT + lent::OFF_AT] = off + 1;
     true
 }
@@ -136,9 +140,9 @@ fn count(stage: Stage, board: &mut [u8]) -> bool
         img board.new }
 {
     match stage {
-        Stage::Copy => return count_copied(board),
-        Stage::Append => return count_appended(board),
-        _ => return false,
+        Stage::Copy => count_copied(board),
+        Stage::Append => count_appended(board),
+        _ => false,
     }
 }
 
@@ -147,11 +151,10 @@ pub fn try_made(len: usize, blocks: u8, board: &mut [u8]) -> bool
     ensures { (img : List ℕ) → length img ≡ len → Tried (made_on blocks img (record_in board.old)) result img board.old
         img board.new }
 {
-    let found = try_next(len, blocks, board);
-    match found {
-        Found::Nothing => return false,
-        Found::Byte(stage, _, _) => return count(stage, board),
-    }
+    let Some(found) = try_next(len, blocks, board) else {
+        return false;
+    };
+    count(found.stage, board)
 }
 
 // Inner part of grommetide_step in the same way: a step.
@@ -159,15 +162,12 @@ pub fn try_byte(image: &mut [u8], blocks: u8, board: &mut [u8]) -> bool
     ensures { Tried (step_on blocks image.old (record_in board.old)) result image.old board.old
         image.new board.new }
 {
-    let found = try_next(image.len(), blocks, board);
-    match found {
-        Found::Nothing => return false,
-        Found::Byte(stage, at, byte) => {
-            if count(stage, board) {
-                flash::program(image, at, byte);
-                return true;
-            }
-            return false;
-        }
+    let Some(found) = try_next(image.len(), blocks, board) else {
+        return false;
+    };
+    let counts = count(found.stage, board);
+    if counts {
+        flash::program(image, found.at, found.byte);
     }
+    counts
 }

@@ -10,12 +10,7 @@ use borrow.Author.Tests.{lt-ltb, le-ltb}
 use Rattle.flash.specs.Bytes.{u16le}
 use Rattle.wire.specs.Code.{overlay}
 use Rattle.wire.proofs.Laying.{to_end}
-use Rattle.flash.specs.Flash.{max_blocks}
-use Rattle.frame.specs.Frame.{buffer_len}
-use Rattle.board.specs.declared.Record.{Record}
-use Rattle.lent.specs.Layout.{cursor_size, plan_size, places_at, places_size, job_at, plan_at, cursor_at, unit_at, frame_at, record_size}
-use Rattle.lent.specs.Layout.{word_bytes, head_bytes_of, plan_bytes, cursor_bytes, record_bytes, record_in}
-use Rattle.lent.proofs.Inverse.{Sized, length-head, record_back}
+use Rattle.lent.specs.Layout.{word_bytes}
 use Rattle.pack.specs.Code.{laid_at}
 use Rattle.lent.proofs.Words.{length_word_bytes, next_word_bytes}
 
@@ -103,29 +98,5 @@ next at n s {p} {l} {x} {y} u v e k =
       size = length-append p s ∙ rw (u.size, e);
     }
 
-whole : (at : ℕ) {p l x : List ℕ} → Upto at p l x → length l ≡ at → x ≡ p
+pub whole : (at : ℕ) {p l x : List ℕ} → Upto at p l x → length l ≡ at → x ≡ p
 whole at {p} {l} {x} u e = u.written ∙ rw (drop_of_length-le l {i = at} (omega arith), append-nil)
-
-flat : (a b c d e f g : List ℕ) → (((((a ++ b) ++ c) ++ d) ++ e) ++ f) ++ g ≡ a ++ (b ++ (c ++ (d ++ (e ++ (f ++ g)))))
-flat a b c d e f g = simp append_assoc
-
--- the parts laid one after the other: the buffer after each
-module _ (r : Record) (l x₁ x₂ x₃ x₄ x₅ x₆ x₇ h p c : List ℕ) (eh : h ≡ head_bytes_of r) (ep : p ≡ plan_bytes r.job)
-    (ec : c ≡ cursor_bytes r.cursor) (e₁ : x₁ ≡ laid_at 0 h l) (e₂ : x₂ ≡ laid_at places_at (word_bytes r.places) x₁)
-    (e₃ : x₃ ≡ laid_at job_at r.job.wipe x₂) (e₄ : x₄ ≡ laid_at plan_at p x₃) (e₅ : x₅ ≡ laid_at cursor_at c x₄)
-    (e₆ : x₆ ≡ laid_at unit_at r.unit x₅) (e₇ : x₇ ≡ laid_at frame_at r.frame x₆) where
-  laid_whole : Sized r → length p ≡ plan_size → length l ≡ record_size → x₇ ≡ record_bytes r
-  unfolding record_bytes
-  laid_whole n nq nl =
-      let u₀ : Upto 0 [] l l = record { written = refl; size = refl } in
-      let u₁ = next 0 places_at h u₀ e₁ (ap length eh ∙ length-head r n.pending) (omega (arith, nl)) in
-      let u₂ = next places_at places_size (word_bytes r.places) u₁ e₂ (length_word_bytes r.places ∙ rw n.places) (omega (arith, nl)) in
-      let u₃ = next job_at max_blocks r.job.wipe u₂ e₃ n.wipe (omega (arith, nl)) in
-      let u₄ = next plan_at plan_size p u₃ e₄ nq (omega (arith, nl)) in
-      let u₅ = next cursor_at cursor_size c u₄ e₅ (ap length ec) (omega (arith, nl)) in
-      let u₆ = next unit_at buffer_len r.unit u₅ e₆ n.unit (omega (arith, nl)) in
-      let u₇ = next frame_at buffer_len r.frame u₆ e₇ n.frame (omega (arith, nl)) in
-      whole record_size u₇ nl ∙ flat h (word_bytes r.places) r.job.wipe p c r.unit r.frame ∙ rw (eh, ep, ec)
-
-  pub encoded : Sized r → length p ≡ plan_size → length l ≡ record_size → (x₇ ≡ record_bytes r) × (record_in x₇ ≡ r)
-  encoded n nq nl = let e = laid_whole n nq nl in (e, ap record_in e ∙ record_back r n)

@@ -5,7 +5,7 @@ use mathlib.Core.Bool.{Bool, true, false}
 use Prim.Native.Nat.{ℕ, ◌+◌, ◌-◌, ◌≤◌, ◌<◌}
 use native.Mathlib.Omega.{arith}
 use lib.ListN.{length, get_or, take, drop, replicate, length-append, length-take, length-drop, take-append-drop, drop_of_length-le}
-use lib.Seq.{take_all, drop_at, drop-drop, take-append-le, drop-append-le, length-take-le}
+use lib.Seq.{take_at, take_all, drop_at, drop-drop, take-append-le, drop-append-le, length-take-le}
 use borrow.Author.Tests.{eq-eqb, ne_eqb}
 use Rattle.flash.specs.Flash.{max_blocks}
 use Rattle.frame.specs.Frame.{buffer_len}
@@ -20,7 +20,7 @@ use Rattle.lent.proofs.Words.{length_word_bytes, length-plan}
 use Rattle.lent.proofs.Inverse.{Sized, length-head, record_back}
 use Rattle.lent.proofs.Own.{length_words_in, length-bytes_in, places_own, frames_own, places_laid, frame_after, places-stay, unit_laid, frame_stays}
 use Rattle.pack.specs.Code.{laid_at, numbers_into, loaded_in, left_in, Holds}
-use Rattle.pack.proofs.Laying.{Upto, next, laid-here}
+use Rattle.pack.proofs.Laying.{Upto, next, whole, laid-here}
 
 -- a stretch that stays
 keep : (at n : ℕ) {p l x : List ℕ} → Upto at p l x → at + n ≤ length l → Upto (at + n) (p ++ take n (drop at l)) l x
@@ -116,6 +116,39 @@ other-size r b h = record { bytes = rw (ne_eqb _ _ h); back = λ e. absurd (h e)
 held : (r : Record) (b after : List ℕ) → length b ≡ record_size → Sized r → after ≡ record_bytes r → Holds r b after
 unfolding record_into
 held r b after l z e = record { bytes = rw (eq-eqb _ _ l) e; back = λ _. ap record_in e ∙ record_back r z }
+
+-- all arrays were laid first: x is the buffer after the places, y after the frame that is copied, w after the one to append
+pub encoded : (n : Numbers) (p u f b x y w after : List ℕ) → Lengths n → length b ≡ record_size → length p ≡ 256 → length u ≡ buffer_len
+    → length f ≡ buffer_len → x ≡ laid_at places_at (word_bytes p) b → y ≡ laid_at unit_at u x → w ≡ laid_at frame_at f y
+    → after ≡ numbers_into n w → Holds (assemble n p u f) b after
+encoded n p u f b x y w after z l k q m ex ey ew e =
+    let a = take places_at b in
+    let g = take (unit_at - job_at) (drop job_at b) in
+    let ws = word_bytes p in
+    let u₀ : Upto 0 [] b b = record { written = refl; size = refl } in
+    let u₁ : Upto places_at a b b = keep 0 places_at u₀ (omega (arith, l)) in
+    let u₂ : Upto job_at (a ++ ws) b x = next places_at places_size ws u₁ ex (length_word_bytes p ∙ rw k) (omega (arith, l)) in
+    let u₃ : Upto unit_at ((a ++ ws) ++ g) b x = keep job_at (unit_at - job_at) u₂ (omega (arith, l)) in
+    let u₄ : Upto frame_at (((a ++ ws) ++ g) ++ u) b y = next unit_at buffer_len u u₃ ey q (omega (arith, l)) in
+    let u₅ : Upto record_size ((((a ++ ws) ++ g) ++ u) ++ f) b w = next frame_at buffer_len f u₄ ew m (omega (arith, l)) in
+    let all : w ≡ (((a ++ ws) ++ g) ++ u) ++ f = whole record_size u₅ l in
+    let apart : w ≡ a ++ (ws ++ (g ++ (u ++ f))) = all ∙ simp append_assoc in
+    let places : ws ≡ take places_size (drop places_at w) = sym
+    (ap (λ (t : List ℕ). take places_size (drop places_at t)) apart
+    ∙ ap (take places_size) (drop_at a (ws ++ (g ++ (u ++ f))) places_at u₁.size)
+    ∙ take_at ws (g ++ (u ++ f)) places_size (length_word_bytes p ∙ rw k)) in
+    let frames : u ++ f ≡ drop unit_at w = sym
+    (ap (drop unit_at) (all ∙ append_assoc ((a ++ ws) ++ g) u f) ∙ drop_at ((a ++ ws) ++ g) (u ++ f) unit_at u₃.size) in
+    let sized : Sized (assemble n p u f) = record {
+      pending = z.pending;
+      places = k;
+      wipe = z.wipe;
+      since = z.since;
+      close = z.close;
+      unit = q;
+      frame = m;
+    } in
+    held (assemble n p u f) b after l sized (e ∙ numbers_laid n z w p u f (ap length all ∙ u₅.size) places frames)
 
 module _ (s : Stepped) (b after : List ℕ) (l : length b ≡ record_size) (n : Lengths s.next) where
   -- the job went on

@@ -1,5 +1,5 @@
 // The record written back after a step: its numbers, over the arrays that stand in the buffer.
-ghost use Rattle.std.specs.Prelude.{◌≡◌, length, replicate};
+ghost use Rattle.std.specs.Prelude.{◌≡◌};
 ghost use Rattle.pack.specs.Code.{numbers_into, loaded_in, left_in, Holds};
 
 use crate::{cursor_bytes, head_bytes, lay_at, lay_words, plan_bytes};
@@ -7,29 +7,13 @@ use frame::BUFFER_LEN;
 use job::records::{Numbers, Stepped};
 
 // The numbers laid over the bytes.
-fn lay_numbers(n: Numbers, bytes: &mut [u8])
+pub(crate) fn lay_numbers(n: Numbers, bytes: &mut [u8])
     ensures { bytes.new ≡ numbers_into n bytes.old }
 {
-    let j = n.job;
-    let c = n.cursor;
-    let head = head_bytes(n);
-    let wipe = j.wipe;
-    let plan = plan_bytes(j);
-    let cursor = cursor_bytes(c);
-    lay_at(bytes, 0, &head);
-    lay_at(bytes, lent::JOB_AT, &wipe);
-    lay_at(bytes, lent::PLAN_AT, &plan);
-    lay_at(bytes, lent::CURSOR_AT, &cursor);
-}
-
-fn clear(bytes: &mut [u8])
-    ensures { bytes.new ≡ replicate (length bytes.old) 0 }
-{
-    let mut i = 0;
-    while i < bytes.len() {
-        bytes[i] = 0;
-        i += 1;
-    }
+    lay_at(bytes, 0, &head_bytes(n));
+    lay_at(bytes, lent::JOB_AT, &n.job.wipe);
+    lay_at(bytes, lent::PLAN_AT, &plan_bytes(n.job));
+    lay_at(bytes, lent::CURSOR_AT, &cursor_bytes(n.cursor));
 }
 
 // The record that a step leaves, in a buffer of its size; any other buffer stays.
@@ -39,13 +23,10 @@ pub fn write_step(s: Stepped, bytes: &mut [u8])
     if bytes.len() != lent::RECORD_SIZE {
         return;
     }
-    let next = s.next;
     if s.ended {
-        clear(&mut bytes[lent::UNIT_AT..]);
-        lay_numbers(next, bytes);
-        return;
+        bytes[lent::UNIT_AT..].fill(0);
     }
-    lay_numbers(next, bytes);
+    lay_numbers(s.next, bytes);
 }
 
 // The same with other places and another frame that is copied.

@@ -19,11 +19,8 @@ pub fn new_record(s: Stepped, places: &[u16; 256], frame: &[u8; BUFFER_LEN], boa
     ensures back { ReadsAs board.old board.new
         (assemble s.next places.now no_frame frame.now) }
 {
-    let next = s.next;
-    let unit = records::no_frame();
-    encode_parts(next, places, &unit, frame, board);
-    let answer = s.answer;
-    wire::number(answer)
+    encode_parts(s.next, places, &records::no_frame(), frame, board);
+    wire::number(s.answer)
 }
 
 // What a request left: the record written where a job began, and the answer.
@@ -33,10 +30,8 @@ pub fn begun(s: Stepped, places: &[u16; 256], frame: &[u8; BUFFER_LEN], board: &
     ensures back { ReadsAsIf s.answer board.old board.new
         (assemble s.next places.now no_frame frame.now) }
 {
-    let answer = s.answer;
-    match answer {
-        Answer::Done => return wire::number(answer),
-        Answer::More => return new_record(s, places, frame, board),
-        Answer::Refused(_) => return wire::number(answer),
+    match s.answer {
+        Answer::More => new_record(s, places, frame, board),
+        Answer::Done | Answer::Refused(_) => wire::number(s.answer),
     }
 }

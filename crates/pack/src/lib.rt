@@ -4,13 +4,13 @@
 mod drive;
 mod jobs;
 
-ghost use Rattle.std.specs.Prelude.{◌≡◌, [], ◌+◌, ◌*◌, ◌/◌, ◌%◌, ◌≤◌, length};
-ghost use Rattle.lent.specs.Layout.{stage_byte, phase_byte, flag_byte, head_bytes_of, plan_bytes, cursor_bytes, word_bytes, record_into};
-ghost use Rattle.board.specs.Table.{is_busy};
+ghost use Rattle.std.specs.Prelude.{◌≡◌, [], ◌+◌, ◌*◌, ◌≤◌, length};
+ghost use Rattle.lent.specs.Layout.{phase_byte, head_bytes_of, plan_bytes, cursor_bytes, word_bytes, record_into};
 ghost use Rattle.job.specs.Code.{assemble};
 ghost use Rattle.pack.specs.Code.{laid_at, ReadsAs, changes};
 
 use board::{Cursor, Job, Phase, Record, Stage};
+use drive::lay_numbers;
 pub use drive::{write_loaded, write_step};
 use frame::BUFFER_LEN;
 use job::records;
@@ -18,142 +18,76 @@ use job::records::Numbers;
 pub use jobs::{begun, new_record};
 use wire::Answer;
 
-fn stage_byte(stage: Stage) -> u8
-    ensures { result ≡ stage_byte stage }
-{
-    match stage {
-        Stage::Wipe => 2,
-        Stage::Open => 3,
-        Stage::Copy => 4,
-        Stage::Seal => 5,
-        Stage::Drop => 6,
-        Stage::Append => 7,
-        Stage::Close => 8,
-    }
-}
-
+// The number of a phase, as unpack's phase_in reads it. Phases are board's, whose records know no bytes: so this is no impl of From.
 fn phase_byte(phase: Phase) -> u8
     ensures { result ≡ phase_byte phase }
 {
     match phase {
         Phase::Unmounted => 0,
         Phase::Idle => 1,
-        Phase::Busy(stage) => stage_byte(stage),
+        Phase::Busy(Stage::Wipe) => 2,
+        Phase::Busy(Stage::Open) => 3,
+        Phase::Busy(Stage::Copy) => 4,
+        Phase::Busy(Stage::Seal) => 5,
+        Phase::Busy(Stage::Drop) => 6,
+        Phase::Busy(Stage::Append) => 7,
+        Phase::Busy(Stage::Close) => 8,
     }
-}
-
-fn flag_byte(flag: bool) -> u8
-    ensures { result ≡ flag_byte flag }
-{
-    if flag { 1 } else { 0 }
-}
-
-// A word's two bytes.
-pub fn low(word: u16) -> u8
-    ensures { result ≡ word % 256 }
-{
-    (word % 256) as u8
-}
-
-pub fn high(word: u16) -> u8
-    ensures { result ≡ word / 256 }
-{
-    (word / 256) as u8
 }
 
 fn head_bytes(n: Numbers) -> [u8; lent::PLACES_AT]
     ensures { result ≡ head_bytes_of (assemble n [] [] []) }
 {
-    let phase = n.phase;
     let rest = n.rest;
-    let last = rest.last;
-    let end = rest.end;
-    let p = rest.pending;
-    [
-        phase_byte(phase),
-        low(last),
-        high(last),
-        rest.block,
-        low(end),
-        high(end),
-        rest.blocks,
-        low(p[0]),
-        high(p[0]),
-        low(p[1]),
-        high(p[1]),
-        low(p[2]),
-        high(p[2]),
-        low(p[3]),
-        high(p[3]),
-        rest.edition,
-    ]
+    let mut head = [0; lent::PLACES_AT];
+    head[0] = phase_byte(n.phase);
+    lay_at(&mut head, lent::LAST_AT, &rest.last.to_le_bytes());
+    head[lent::BLOCK_AT] = rest.block;
+    lay_at(&mut head, lent::END_AT, &rest.end.to_le_bytes());
+    head[lent::BLOCKS_AT] = rest.blocks;
+    lay_words(&mut head, lent::PENDING_AT, &rest.pending);
+    head[lent::EDITION_AT] = rest.edition;
+    head
 }
 
 // A job but for the blocks to erase.
 fn plan_bytes(job: Job) -> [u8; lent::PLAN_SIZE]
     ensures { result ≡ plan_bytes job }
 {
-    let t = job.time;
-    let s = job.since;
-    let c = job.close;
-    [
-        job.wipes,
-        flag_byte(job.moves),
-        flag_byte(job.drops),
-        job.target,
-        (t % 256) as u8,
-        (t / 256 % 256) as u8,
-        (t / 65536 % 256) as u8,
-        (t / 16777216) as u8,
-        low(s[0]),
-        high(s[0]),
-        low(s[1]),
-        high(s[1]),
-        low(s[2]),
-        high(s[2]),
-        low(s[3]),
-        high(s[3]),
-        job.size,
-        job.edition,
-        job.closes,
-        low(c[0]),
-        high(c[0]),
-        low(c[1]),
-        high(c[1]),
-        low(c[2]),
-        high(c[2]),
-        low(c[3]),
-        high(c[3]),
-    ]
+    let mut plan = [0; lent::PLAN_SIZE];
+    plan[0] = job.wipes;
+    plan[lent::MOVES_AT] = u8::from(job.moves);
+    plan[lent::DROPS_AT] = u8::from(job.drops);
+    plan[lent::TARGET_AT] = job.target;
+    lay_at(&mut plan, lent::TIME_AT, &job.time.to_le_bytes());
+    lay_words(&mut plan, lent::SINCE_AT, &job.since);
+    plan[lent::APPEND_AT] = job.size;
+    plan[lent::MAKES_AT] = job.edition;
+    plan[lent::CLOSES_AT] = job.closes;
+    lay_words(&mut plan, lent::CLOSE_AT, &job.close);
+    plan
 }
 
 fn cursor_bytes(cursor: Cursor) -> [u8; lent::CURSOR_SIZE]
     ensures { result ≡ cursor_bytes cursor }
 {
-    let a = cursor.at;
-    let i = cursor.id;
-    let s = cursor.source;
-    [
-        cursor.index,
-        low(a),
-        high(a),
-        low(i),
-        high(i),
-        low(s),
-        high(s),
-        cursor.size,
-        cursor.off,
-    ]
+    let mut bytes = [0; lent::CURSOR_SIZE];
+    bytes[0] = cursor.index;
+    lay_at(&mut bytes, lent::MADE_AT, &cursor.at.to_le_bytes());
+    lay_at(&mut bytes, lent::ID_AT, &cursor.id.to_le_bytes());
+    lay_at(&mut bytes, lent::SOURCE_AT, &cursor.source.to_le_bytes());
+    bytes[lent::COPY_AT] = cursor.size;
+    bytes[lent::OFF_AT] = cursor.off;
+    bytes
 }
 
 // Lays a source over the bytes from a place on, where there are as many.
 fn lay_at(bytes: &mut [u8], at: usize, source: &[u8])
     ensures { bytes.new ≡ laid_at at source.now bytes.old }
 {
-    if bytes.len() < at {
-        return;
+    if at <= bytes.len() {
+        wire::lay(&mut bytes[at..], source);
     }
-    wire::lay(&mut bytes[at..], source);
 }
 
 // Lays words over the bytes from a place on. A step of C's may write a record's places, so this loop tests nothing but its end.
@@ -161,12 +95,10 @@ fn lay_words(bytes: &mut [u8], at: usize, words: &[u16])
     requires { at + 2 * length words.now ≤ length bytes.old }
     ensures { bytes.new ≡ laid_at at (word_bytes words.now) bytes.old }
 {
-    let mut i = 0;
-    while i < words.len() {
-        let w = words[i];
-        bytes[at + 2 * i] = low(w);
-        bytes[at + 2 * i + 1] = high(w);
-        i += 1;
+    for (i, word) in words.iter().enumerate() {
+        let pair = word.to_le_bytes();
+        bytes[at + 2 * i] = pair[0];
+        bytes[at + 2 * i + 1] = pair[1];
     }
 }
 
@@ -186,49 +118,31 @@ pub fn encode_parts(
     if bytes.len() != lent::RECORD_SIZE {
         return;
     }
-    let head = head_bytes(n);
-    let j = n.job;
-    let wipe = j.wipe;
-    let plan = plan_bytes(j);
-    let c = n.cursor;
-    let cursor = cursor_bytes(c);
-    lay_at(bytes, 0, &head);
     lay_words(bytes, lent::PLACES_AT, places);
-    lay_at(bytes, lent::JOB_AT, &wipe);
-    lay_at(bytes, lent::PLAN_AT, &plan);
-    lay_at(bytes, lent::CURSOR_AT, &cursor);
     lay_at(bytes, lent::UNIT_AT, unit);
     lay_at(bytes, lent::FRAME_AT, frame);
+    lay_numbers(n, bytes);
 }
 
 // The same of a whole record.
 pub fn encode(board: Record, bytes: &mut [u8])
     ensures { bytes.new ≡ record_into board bytes.old }
 {
-    let places = board.places;
-    let unit = board.unit;
-    let frame = board.frame;
-    encode_parts(records::numbers_of(board), &places, &unit, &frame, bytes);
+    encode_parts(
+        records::numbers_of(board),
+        &board.places,
+        &board.unit,
+        &board.frame,
+        bytes,
+    );
 }
 
-// ---- whether a step changed the record
-
-fn in_job(phase: Phase) -> bool
-    ensures { result ≡ is_busy phase }
-{
-    match phase {
-        Phase::Unmounted => false,
-        Phase::Idle => false,
-        Phase::Busy(_) => true,
-    }
-}
-
-// A job began, went on or ended.
+// Whether a step changed the record: a job began, went on or ended.
 pub fn changes(phase: Phase, answer: Answer) -> bool
     ensures { result ≡ changes phase answer }
 {
     match answer {
-        Answer::Done => in_job(phase),
+        Answer::Done => matches!(phase, Phase::Busy(_)),
         Answer::More => true,
         Answer::Refused(_) => false,
     }

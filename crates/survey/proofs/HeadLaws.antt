@@ -18,7 +18,7 @@ use Rattle.frame.proofs.Scanning.{push_all, push-ends}
 use Rattle.survey.specs.declared.Progress.{Progress}
 use Rattle.journal.specs.Block.{header_len}
 use Rattle.journal.specs.Index.{places_of}
-use Rattle.survey.specs.Pass.{grown, ended, ended_all, passed, took_frame, took_places, tail_of_of, walk_of, lengths_at, settled_total, tally_of}
+use Rattle.survey.specs.Pass.{grown, ended, ended_all, passed, took_frame, took_places, walked, walk_of, lengths_at, settled_total, tally_of}
 use Rattle.journal.proofs.PerHost.{pending-most}
 use Rattle.fetch.proofs.FrameReads.{whole_is, blank-is, torn_is, scan-blank-at, scan-torn-at, scan-wrong-at}
 use Rattle.survey.proofs.Passing.{Reached, reached-on}
@@ -56,12 +56,12 @@ module _ (ed : Edition) {b t : List ℕ} {p : Progress} (y : Reached ed b t p) w
 
   -- the walk ends here
   abbrev Ends : Tail → Type 0
-  Ends c = (record { progress = p; tail = tail_of_of c } ≡ walk_of ed whole_scan) × (t ≡ places_of ed whole_scan.frames)
+  Ends c = (walked p c ≡ walk_of ed whole_scan) × (t ≡ places_of ed whole_scan.frames)
 
   ends_with : (c : Tail) → scan ed p.next p.end 0 (drop p.end b) ≡ ends c → Ends c
   ends_with c e =
       let q : whole_scan ≡ record { frames = y.frames; tail = c } = y.scanned ∙ ap (push_all y.frames) e ∙ push-ends y.frames c in (
-        ap (λ (x : Progress). record { progress = x; tail = tail_of_of c }) y.progress ∙ ap (walk_of ed) (sym q),
+        ap (λ (x : Progress). walked x c) y.progress ∙ ap (walk_of ed) (sym q),
         y.places ∙ ap (λ (s : Scan). places_of ed s.frames) (sym q),
       )
 

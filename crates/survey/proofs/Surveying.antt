@@ -1,38 +1,35 @@
 -- A block's survey, by the way the code goes: which state it is in, and what a walk of its frames and a tally come to.
 use mathlib.Core.Path.{◌≡◌, refl, sym, ap, ap₂, subst, ◌∙◌}
 use mathlib.Core.List.{List, ◌++◌}
-use mathlib.Core.Option.{Option, none, some}
+use mathlib.Core.Option.{none}
 use mathlib.Core.Bool.{true, false}
-use Prim.Native.Nat.{ℕ, ◌+◌, ◌≤◌, ◌<◌}
+use Prim.Native.Nat.{ℕ, ◌+◌, ◌≤◌}
 use native.Mathlib.Omega.{arith}
 use lib.Dec.{eqb}
 use lib.ListN.{length, length-map, get_or, take, drop, replicate, length-drop, take-append-drop}
 use lib.Seq.{length-take-le}
-use borrow.Author.Tests.{le-leb, lt-leb}
+use borrow.Author.Tests.{le-leb}
 use Rattle.flash.specs.Bytes.{all_ff}
+use Rattle.std.specs.Prelude.{Result, Ok, Err}
 use Rattle.frame.specs.declared.Edition.{Edition}
 use Rattle.frame.specs.declared.Fault.{Fault}
-use Rattle.frame.specs.declared.Field.TheVariants as field
 use Rattle.frame.specs.Frame.{Frame, total, next_of}
-use Rattle.frame.specs.Reader.{fault, Tail, clean, cut, bad, Scan, ends}
+use Rattle.frame.specs.Reader.{Tail, clean, cut, bad, Scan, ends}
 use Rattle.frame.specs.Sentences.{Torn}
 use Rattle.frame.proofs.Scanned.{Scanned, scan_inv, scan-length, tail-cut}
 use Rattle.frame.proofs.Exact.{torn-fits}
-use Rattle.survey.specs.declared.HeaderCheck.TheVariants as check
-use Rattle.survey.specs.declared.Progress.{Progress}
-use Rattle.survey.specs.declared.Tail.TheVariants as tail
 use Rattle.survey.specs.declared.Walk.{Walk}
 use Rattle.survey.specs.declared.BlockKind.{BlockKind}
 use Rattle.survey.specs.declared.BlockKind.TheVariants as kind
 use Rattle.survey.specs.declared.Survey.{Survey}
 use Rattle.journal.specs.Replay.{lookup, list_of, replay, replay_from}
-use Rattle.journal.specs.Block.{header_len, block_max, state_at, in_transfer, created_at, edition_in, header_fault, Journal, journal, BlockState, blank}
+use Rattle.journal.specs.Block.{header_len, block_max, state_at, in_transfer, created_at, edition_in, Journal, journal, BlockState, blank}
 use Rattle.journal.specs.Block.{in_progress, valid}
 use Rattle.journal.specs.Block.{foreign, of_journal, of_header, block_state, torn_len}
 use Rattle.journal.specs.Index.{sited, places_from, places_of, since_from, since_of}
 use Rattle.journal.specs.Room.{used, pending_of}
-use Rattle.survey.specs.Survey.{survey_of, places_in, state_of}
-use Rattle.survey.specs.Pass.{header_of, scan_block, progress_of, tail_of_of, walk_of, lengths_at, settled_total, tally_of, empty_survey, found_survey}
+use Rattle.survey.specs.Survey.{survey_of, places_in, state_of, verdict, Judged}
+use Rattle.survey.specs.Pass.{scan_block, progress_of, walked, walk_of, lengths_at, settled_total, tally_of, empty_survey, found_survey}
 use Rattle.journal.proofs.Replaying.{rising-to, Sound, sound-replay}
 use Rattle.journal.proofs.Places.{Standing}
 use Rattle.journal.proofs.Room.{claimed-replay}
@@ -60,68 +57,51 @@ empty-foreign : (x : Fault) → Empty (foreign x) (kind.Foreign x)
 unfolding empty_survey survey_of total since_from replay_from list_of places_from sited lookup
 empty-foreign x = record { survey = refl; places = refl }
 
--- what the code gives back for a block in a state
-abbrev pub Right : BlockState → Survey → List ℕ → Type 0
-Right s r t = (r ≡ survey_of s) × (t ≡ places_in s)
+-- what the code finds out, of blocks that aren't valid
+pub judged_as : (s q : BlockState) (r : Result Survey Fault) (t : List ℕ) → q ≡ s → Judged s r t → Judged q r t
+judged_as s q r t e y = subst (λ (x : BlockState). Judged x r t) (sym e) y
 
-empty_right : {s : BlockState} {k : BlockKind} {q : BlockState} {r : Survey} {t : List ℕ} → Empty s k → q ≡ s → r ≡ empty_survey k
-    → t ≡ replicate 256 0 → Right q r t
-empty_right {s} {k} {q} {r} {t} e p u v =
-    subst (λ (x : BlockState). Right x r t) (sym p) (u ∙ e.survey, v ∙ e.places)
+judged_blank : (x : Survey) (t : List ℕ) → x ≡ empty_survey kind.Blank → t ≡ replicate 256 0 → Judged blank (Ok x) t
+judged_blank x t u v = (ap Ok (u ∙ empty-blank.survey), v ∙ empty-blank.places)
 
-pub right_empty : (x : Fault) (r : Survey) (t : List ℕ) → r ≡ empty_survey (kind.Foreign x) → t ≡ replicate 256 0 → Right (foreign x) r t
-right_empty x r t u v = empty_right (empty-foreign x) refl u v
+judged_progress : (x : Survey) (t : List ℕ) → x ≡ empty_survey kind.InProgress → t ≡ replicate 256 0 → Judged in_progress (Ok x) t
+judged_progress x t u v = (ap Ok (u ∙ empty-progress.survey), v ∙ empty-progress.places)
+
+-- what the code then gives back
+pub ok_right : (s : BlockState) (x : Survey) → Ok x ≡ verdict s → x ≡ survey_of s
+ok_right blank x e = cc
+ok_right in_progress x e = cc
+ok_right (valid j) x e = cc
+ok_right (foreign f) x e = cc
+
+pub err_right : (s : BlockState) (f : Fault) (x : Survey) (t : List ℕ) → Err f ≡ verdict s → x ≡ empty_survey (kind.Foreign f) → t ≡ replicate 256 0
+    → (x ≡ survey_of s) × (t ≡ places_in s)
+err_right blank f x t e u v = cc
+err_right in_progress f x t e u v = cc
+err_right (valid j) f x t e u v = cc
+err_right (foreign g) f x t e u v =
+    let q : f ≡ g = cc in
+    (u ∙ ap (λ (y : Fault). empty_survey (kind.Foreign y)) q ∙ (empty-foreign g).survey, v ∙ (empty-foreign g).places)
 
 -- ---- by the block's length
 
 module _ (b : List ℕ) where
-  pub half_short : length b < header_len → state_of b ≡ foreign (fault field.Length 0)
-  unfolding state_of
-  half_short l = rw (lt-leb header_len (length b) l, state_of)
-
-  pub half_long : header_len ≤ length b → block_max < length b → state_of b ≡ foreign (fault field.Length 0)
-  unfolding state_of
-  half_long l m = rw (le-leb header_len (length b) l, lt-leb (length b) block_max m, state_of)
-
   -- callers' blocks are halves
   pub half_fits : (header_len ≤ length b) × (length b ≤ block_max) → state_of b ≡ block_state b
   unfolding state_of
   half_fits (l, m) = rw (le-leb header_len (length b) l, le-leb (length b) block_max m, state_of)
 
-  pub right_as : (s : BlockState) (r : Survey) (t : List ℕ) → state_of b ≡ s → Right s r t → Right (state_of b) r t
-  right_as s r t e y = subst (λ (x : BlockState). Right x r t) (sym e) y
-
 -- ---- which state
 
-module _ (b : List ℕ) (r : Survey) (t : List ℕ) where
-  pub right_blank : all_ff b ≡ true → r ≡ empty_survey kind.Blank → t ≡ replicate 256 0 → Right (block_state b) r t
+module _ (b : List ℕ) (h : (header_len ≤ length b) × (length b ≤ block_max)) where
+  pub is_blank : all_ff b ≡ true → (x : Survey) (t : List ℕ) → x ≡ empty_survey kind.Blank → t ≡ replicate 256 0 → Judged (state_of b) (Ok x) t
   unfolding block_state
-  right_blank a u v = empty_right empty-blank (rw (a, block_state)) u v
+  is_blank a x t u v = judged_as blank (state_of b) (Ok x) t (half_fits b h ∙ rw (a, block_state)) (judged_blank x t u v)
 
-  module _ (a : all_ff b ≡ false) where
-    pub right_progress : eqb (get_or b state_at 0) in_transfer ≡ true → r ≡ empty_survey kind.InProgress → t ≡ replicate 256 0 → Right (block_state b) r t
-    unfolding block_state
-    right_progress p u v = empty_right empty-progress (rw (a, p, block_state)) u v
-
-    module _ (p : eqb (get_or b state_at 0) in_transfer ≡ false) where
-      state_is : block_state b ≡ of_header b (header_fault b)
-      unfolding block_state
-      state_is = rw (a, p, block_state)
-
-      pub right_foreign : (x : Fault) → header_of (header_fault b) ≡ check.Bad x → r ≡ empty_survey (kind.Foreign x) → t ≡ replicate 256 0
-          → Right (block_state b) r t
-      right_foreign x e u v = empty_right (empty-foreign x) (state_is ∙ ap (of_header b) (go (header_fault b) e)) u v
-        where
-          go : (o : Option Fault) → header_of o ≡ check.Bad x → o ≡ some x
-          go none q = let z : ◌≡◌ {A = ℕ} 0 1 = cc in absurd (omega arith)
-          go (some y) q = cc
-
-      pub right_sound : header_of (header_fault b) ≡ check.Sound → Right (of_header b none) r t → Right (block_state b) r t
-      right_sound e y = subst (λ (s : BlockState). Right s r t) (sym (state_is ∙ ap (of_header b) (go (header_fault b) e))) y
-        where
-          go : (o : Option Fault) → header_of o ≡ check.Sound → o ≡ none
-          go none q = refl
-          go (some y) q = let z : ◌≡◌ {A = ℕ} 0 1 = cc in absurd (omega arith)
+  pub is_progress : all_ff b ≡ false → eqb (get_or b state_at 0) in_transfer ≡ true → (x : Survey) (t : List ℕ) → x ≡ empty_survey kind.InProgress
+      → t ≡ replicate 256 0 → Judged (state_of b) (Ok x) t
+  unfolding block_state
+  is_progress a p x t u v = judged_as in_progress (state_of b) (Ok x) t (half_fits b h ∙ rw (a, p, block_state)) (judged_progress x t u v)
 
 -- ---- a valid block
 
@@ -190,44 +170,40 @@ module _ (ed : Edition) (b : List ℕ) (g : ed ≡ edition_in b) (h : header_len
       (ap length settled_all ∙ length-map (replay fs).objects _)
       tallied
 
-  module _ (w : Walk) (t : List ℕ) (r : Survey) (e : w ≡ walk_of ed frames_scan) (p : t ≡ places_of ed fs) where
-    tail_is : tail_of_of frames_scan.tail ≡ w.tail
-    tail_is = ap (λ (x : Walk). x.tail) (sym e)
+  tail_bad : (f : Fault) (c : Tail) → Err f ≡ walked (progress_of ed fs) c → c ≡ bad f
+  tail_bad f clean e = cc
+  tail_bad f (cut n) e = cc
+  tail_bad f (bad g) e = cc
 
-    right_valid : (c : Tail) → frames_scan.tail ≡ c → of_journal (read c) ≡ valid (read c) → r ≡ found_survey ed b t w.progress (torn_len c)
-        → Right (of_header b none) r t
-    right_valid c q o u =
-        subst (λ (s : BlockState). Right s r t) (sym (of-header ∙ ap (λ (x : Tail). of_journal (read x)) q ∙ o))
-        (u ∙ ap₂ (λ (x : List ℕ) (y : Progress). found_survey ed b x y (torn_len c)) p (ap (λ (x : Walk). x.progress) e) ∙ survey_found c, p)
+  pub frames_bad : (f : Fault) (t : List ℕ) → Err f ≡ walk_of ed frames_scan → Judged (of_header b none) (Err f) t
+  frames_bad f t e =
+      judged_as (foreign f) (of_header b none) (Err f) t (of-header ∙ ap (λ (c : Tail). of_journal (read c)) (tail_bad f frames_scan.tail e)) (refl, tt)
 
-    pub right_clean : w.tail ≡ tail.Clean → r ≡ found_survey ed b t w.progress 0 → Right (of_header b none) r t
-    right_clean q u = right_valid clean (go frames_scan.tail (tail_is ∙ q)) refl u
-      where
-        go : (c : Tail) → tail_of_of c ≡ tail.Clean → c ≡ clean
-        go clean z = refl
-        go (cut n) z = let y : ◌≡◌ {A = ℕ} 0 1 = cc in absurd (omega arith)
-        go (bad x) z = let y : ◌≡◌ {A = ℕ} 0 1 = cc in absurd (omega arith)
-
-    cut_is : (n : ℕ) (c : Tail) → tail_of_of c ≡ tail.Cut n → c ≡ cut n
-    cut_is n clean z = let y : ◌≡◌ {A = ℕ} 0 1 = cc in absurd (omega arith)
-    cut_is n (cut m) z = cc
-    cut_is n (bad x) z = let y : ◌≡◌ {A = ℕ} 0 1 = cc in absurd (omega arith)
-
-    pub right_cut : (n : ℕ) → w.tail ≡ tail.Cut n → r ≡ found_survey ed b t w.progress n → Right (of_header b none) r t
-    right_cut n q u = right_valid (cut n) (cut_is n frames_scan.tail (tail_is ∙ q)) refl u
-
+  module _ (w : Walk) (e : Ok w ≡ walk_of ed frames_scan) where
     -- a torn frame would fit
-    pub cut_fits : (n : ℕ) → w.tail ≡ tail.Cut n → n ≤ length b
-    cut_fits n q =
-        let y : Torn ed (next_of 0 fs) whole.rest n =
-        tail-cut ed (next_of 0 fs) (header_len + total ed fs) whole.rest n (whole.tail ∙ ap ends (cut_is n frames_scan.tail (tail_is ∙ q))) in
-        omega (arith, (torn-fits ed (next_of 0 fs) whole.rest n y).1, scan-length ed 0 header_len (drop header_len b) frames_scan whole, length-drop header_len b)
-
-    -- the table is cleared again
-    pub right_bad : (x : Fault) (u : List ℕ) → w.tail ≡ tail.Bad x → r ≡ empty_survey (kind.Foreign x) → u ≡ replicate 256 0 → Right (of_header b none) r u
-    right_bad x u q v z = empty_right (empty-foreign x) (of-header ∙ ap (λ (c : Tail). of_journal (read c)) (go frames_scan.tail (tail_is ∙ q))) v z
+    pub torn_fits : w.torn ≤ length b
+    torn_fits = go frames_scan.tail refl e
       where
-        go : (c : Tail) → tail_of_of c ≡ tail.Bad x → c ≡ bad x
-        go clean z = let y : ◌≡◌ {A = ℕ} 0 1 = cc in absurd (omega arith)
-        go (cut m) z = let y : ◌≡◌ {A = ℕ} 0 1 = cc in absurd (omega arith)
-        go (bad y) z = cc
+        go : (c : Tail) → frames_scan.tail ≡ c → Ok w ≡ walked (progress_of ed fs) c → w.torn ≤ length b
+        go clean q z = let y : w.torn ≡ 0 = cc in omega arith
+        go (cut n) q z =
+            let k : w.torn ≡ n = cc in
+            let y : Torn ed (next_of 0 fs) whole.rest n =
+            tail-cut ed (next_of 0 fs) (header_len + total ed fs) whole.rest n (whole.tail ∙ ap ends q) in
+            omega (arith, (torn-fits ed (next_of 0 fs) whole.rest n y).1, scan-length ed 0 header_len (drop header_len b) frames_scan whole, length-drop header_len b)
+        go (bad f) q z = cc
+
+    module _ (t : List ℕ) (s : Survey) (p : t ≡ places_of ed fs) (u : s ≡ found_survey ed b t w.progress w.torn) where
+      judged_valid : (c : Tail) → frames_scan.tail ≡ c → of_journal (read c) ≡ valid (read c)
+          → w ≡ record { progress = progress_of ed fs; torn = torn_len c } → Judged (of_header b none) (Ok s) t
+      judged_valid c q o z =
+          judged_as (valid (read c)) (of_header b none) (Ok s) t (of-header ∙ ap (λ (x : Tail). of_journal (read x)) q ∙ o)
+          (ap Ok (u ∙ ap₂ (λ (x : List ℕ) (y : Walk). found_survey ed b x y.progress y.torn) p z ∙ survey_found c), p)
+
+      pub frames_sound : Judged (of_header b none) (Ok s) t
+      frames_sound = go frames_scan.tail refl e
+        where
+          go : (c : Tail) → frames_scan.tail ≡ c → Ok w ≡ walked (progress_of ed fs) c → Judged (of_header b none) (Ok s) t
+          go clean q z = judged_valid clean q refl cc
+          go (cut n) q z = judged_valid (cut n) q refl cc
+          go (bad f) q z = cc

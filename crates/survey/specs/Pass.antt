@@ -1,6 +1,7 @@
 -- How the code passes over a block: proofs/Passing.antt, Surveying.antt and HeadLaws.antt tie it to what a survey says.
-use Rattle.std.specs.Prelude.{List, [], ◌∷◌, true, false, ℕ, zero, suc, ◌+◌, ◌-◌, eqb, length, get_or, take, drop, set}
-use Rattle.std.proofs.Math.Option.{Option, none, some}
+use Rattle.std.specs.Prelude.{List, [], ◌∷◌, true, false, ℕ, zero, suc, ◌+◌, ◌-◌, eqb, length, get_or, take, drop, set, Result, Ok, Err}
+use Rattle.std.proofs.Math.Option as maybe
+use Rattle.std.proofs.Math.Option.{none, some}
 use Rattle.frame.specs.declared.Edition.{Edition}
 use Rattle.frame.specs.declared.Edition.TheVariants as edition
 use Rattle.frame.specs.declared.Host.{Host}
@@ -9,14 +10,9 @@ use Rattle.frame.specs.declared.Head.{Head}
 use Rattle.frame.specs.declared.Head.TheVariants as head
 use Rattle.frame.specs.Frame.{put, delete, Frame}
 use Rattle.frame.specs.Frame.{put_len, delete_len, end_len, settled_len, closed_len, reset_len, total, next_of}
-use Rattle.frame.specs.Reader.{clean, cut, bad, Scan, scan}
-use Rattle.frame.specs.Reader.{Tail as ScanTail}
+use Rattle.frame.specs.Reader.{Tail, clean, cut, bad, Scan, scan}
 use Rattle.frame.specs.Code.{peek_at, head_len, value_len_of}
-use Rattle.survey.specs.declared.HeaderCheck.{HeaderCheck}
-use Rattle.survey.specs.declared.HeaderCheck.TheVariants.{Sound, Bad}
 use Rattle.survey.specs.declared.Progress.{Progress}
-use Rattle.survey.specs.declared.Tail.{Tail}
-use Rattle.survey.specs.declared.Tail.TheVariants as tail
 use Rattle.survey.specs.declared.Walk.{Walk}
 use Rattle.survey.specs.declared.BlockKind.{BlockKind}
 use Rattle.survey.specs.declared.BlockKind.TheVariants as kind
@@ -27,9 +23,9 @@ use Rattle.journal.specs.Index.{since_of, place_if}
 use Rattle.journal.specs.Room.{per_host, pending_of}
 
 -- the header's first fault, if it has one
-abbrev pub header_of : Option Fault → HeaderCheck
-header_of none = Sound
-header_of (some e) = Bad e
+abbrev pub header_of : maybe.Option Fault → Result (Unit {0}) Fault
+header_of none = Ok tt
+header_of (some e) = Err e
 
 -- ---- the pass
 
@@ -98,13 +94,14 @@ took_places ed b p (head.Settled i n) t = set t i.0 p.end
 took_places ed b p (head.Closed n) t = t
 took_places ed b p head.Reset t = t
 
-abbrev pub tail_of_of : ScanTail → Tail
-tail_of_of clean = tail.Clean
-tail_of_of (cut n) = tail.Cut n
-tail_of_of (bad e) = tail.Bad e
+-- the whole frames, and a torn one's length after them, 0 for none; or the fault of what else follows
+abbrev pub walked : Progress → Tail → Result Walk Fault
+walked p clean = Ok (record { progress = p; torn = 0 })
+walked p (cut n) = Ok (record { progress = p; torn = n })
+walked p (bad e) = Err e
 
-abbrev pub walk_of : Edition → Scan → Walk
-walk_of ed s = record { progress = progress_of ed s.frames; tail = tail_of_of s.tail }
+abbrev pub walk_of : Edition → Scan → Result Walk Fault
+walk_of ed s = walked (progress_of ed s.frames) s.tail
 
 -- the lengths of the values that n ids from i on have, by the heads at their places, which were read before; place 0 is none
 unfoldable pub lengths_at : Edition → List ℕ → List ℕ → ℕ → ℕ → List ℕ

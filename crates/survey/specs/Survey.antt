@@ -1,6 +1,7 @@
 -- What a survey says of a block, and what the code's answers stand for.
-use Rattle.std.specs.Prelude.{List, Bool, true, false, ◌&&◌, ℕ, ◌+◌, leb, length}
+use Rattle.std.specs.Prelude.{◌≡◌, List, Bool, true, false, ◌&&◌, ℕ, ◌+◌, leb, length, Result, Ok, Err, IfOk}
 use Rattle.frame.specs.declared.Edition.{Edition}
+use Rattle.frame.specs.declared.Fault.{Fault}
 use Rattle.frame.specs.declared.Field.TheVariants as field
 use Rattle.frame.specs.Frame.{Frame, total}
 use Rattle.frame.specs.Reader.{fault}
@@ -53,3 +54,14 @@ half_len n = leb header_len n && leb n block_max
 -- the state that a survey tells of: a block of no half's length is foreign, whatever stands in it
 unfoldable pub state_of : List ℕ → BlockState
 state_of b = elim (half_len (length b)) [ true ↦ block_state b | false ↦ foreign (fault field.Length 0) ]
+
+-- what the code finds out of a block in a state: of a foreign one its fault, of any other its survey
+abbrev pub verdict : BlockState → Result Survey Fault
+verdict blank = Ok (survey_of blank)
+verdict in_progress = Ok (survey_of in_progress)
+verdict (valid x) = Ok (survey_of (valid x))
+verdict (foreign e) = Err e
+
+-- it found that out; where the block isn't foreign, each id has its place
+abbrev pub Judged : BlockState → Result Survey Fault → List ℕ → Type 0
+Judged s r places = (r ≡ verdict s) × IfOk r (λ x. places ≡ places_in s)

@@ -8,13 +8,6 @@ mod pass;
 pub use block::{commit, survey_block};
 use frame::{Edition, Fault};
 
-// What is wrong with a header, if anything is.
-#[derive(Clone, Copy)]
-pub enum HeaderCheck {
-    Sound,
-    Bad(Fault),
-}
-
 // What the frames of a block come to, as far as they were read.
 #[derive(Clone, Copy)]
 pub struct Progress {
@@ -26,18 +19,11 @@ pub struct Progress {
     pub pending: [u16; 4],
 }
 
-// What follows the whole frames of a block: nothing, a torn frame of a length, or something else.
-#[derive(Clone, Copy)]
-pub enum Tail {
-    Clean,
-    Cut(usize),
-    Bad(Fault),
-}
-
+// The same, and the length of a torn frame after them, 0 for none.
 #[derive(Clone, Copy)]
 pub struct Walk {
     pub progress: Progress,
-    pub tail: Tail,
+    pub torn: usize,
 }
 
 #[derive(Clone, Copy)]

@@ -1,46 +1,21 @@
 // What each frame of a block adds to what was found before it.
-ghost use Rattle.std.specs.Prelude.{◌≡◌, ℕ, ◌+◌, ◌≤◌, ◌<◌, length, get_or, take, set};
+ghost use Rattle.std.specs.Prelude.{◌≡◌, ℕ, ◌+◌, ◌≤◌, ◌<◌, length, get_or, take};
 ghost use Rattle.frame.specs.Code.{head_len};
 ghost use Rattle.journal.specs.Block.{block_max};
 ghost use Rattle.survey.specs.Pass.{place_head, recommit, grown, ended, ended_all, passed, took_frame, took_places};
 
 use crate::Progress;
-use frame::{Edition, Head, Host, ObjectId};
-
-// An id's place.
-fn store(places: &mut [u16], id: ObjectId, at: u16)
-    ensures { places.new ≡ set places.old id.0 at }
-{
-    let i = id.0 as usize;
-    if i < places.len() {
-        places[i] = at;
-    }
-}
+use frame::{Edition, Head, Host};
 
 // A host's put or delete at an offset, as its commit applies it.
+#[tactic(auto, unfolding(crate::specs::Pass::place_head))]
 fn place_own(places: &mut [u16; 256], host: Host, at: u16, head: Head)
     ensures { places.new ≡ place_head host at head places.old }
 {
     match head {
-        Head::Put(h, id, _) => {
-            if host.0 == h.0 {
-                store(places, id, at);
-                return;
-            }
-            return;
-        }
-        Head::Delete(h, id) => {
-            if host.0 == h.0 {
-                store(places, id, 0);
-                return;
-            }
-            return;
-        }
-        Head::Commit(_) => return,
-        Head::Abort(_) => return,
-        Head::Settled(_, _) => return,
-        Head::Closed(_) => return,
-        Head::Reset => return,
+        Head::Put(h, id, _) if h == host => flash::set_at(places, id.0 as usize, at),
+        Head::Delete(h, id) if h == host => flash::set_at(places, id.0 as usize, 0),
+        _ => (),
     }
 }
 
@@ -54,7 +29,7 @@ fn commit_own(part: &[u8], edition: Edition, host: Host, since: usize, places: &
     while at < part.len() {
         let head = reader::peek(part, edition, at);
         place_own(places, host, at as u16, head);
-        at = at + frame::frame_len(edition, head);
+        at += frame::frame_len(edition, head);
     }
 }
 
@@ -67,78 +42,76 @@ pub fn commit_at(
     host: Host,
     places: &mut [u16; 256],
 )
-    requires { (end ≤ length block.now) × (length block.now ≤ block_max) }
+    requires { length block.now ≤ block_max }
     ensures { places.new ≡ recommit edition (take end block.now) host (get_or since host.0 0) places.old }
 {
-    let e = end as usize;
+    let part = flash::front(block, end as usize);
     let from = fetch::of_host(since, host) as usize;
-    commit_own(&block[..e], edition, host, from, places);
+    commit_own(part, edition, host, from, places);
 }
 
 // A host's change of n bytes.
+#[tactic(auto, unfolding(crate::specs::Pass::grown))]
 fn grow(p: Progress, host: Host, n: u16) -> Progress
     requires { (p.end + n ≤ block_max) × (get_or p.pending host.0 0 ≤ p.end) }
     ensures { result ≡ grown p host n }
 {
-    let since = p.since;
-    let old = p.pending;
-    let pending = fetch::with_host(old, host, fetch::of_host(old, host) + n);
+    let pending = fetch::with_host(p.pending, host, fetch::of_host(p.pending, host) + n);
     Progress {
         end: p.end + n,
         next: 256,
-        since: since,
-        pending: pending,
+        pending,
+        ..p
     }
 }
 
 // A host's commit or abort of n bytes.
+#[tactic(auto, unfolding(crate::specs::Pass::ended))]
 fn end_list(p: Progress, host: Host, n: u16) -> Progress
     requires { p.end + n ≤ block_max }
     ensures { result ≡ ended p host n }
 {
     let end = p.end + n;
-    let old = p.since;
-    let was = p.pending;
-    let since = fetch::with_host(old, host, end);
-    let pending = fetch::with_host(was, host, 0);
+    let since = fetch::with_host(p.since, host, end);
+    let pending = fetch::with_host(p.pending, host, 0);
     Progress {
-        end: end,
+        end,
         next: 256,
-        since: since,
-        pending: pending,
+        since,
+        pending,
     }
 }
 
 // A reset of n bytes: every host's list ends.
+#[tactic(auto, unfolding(crate::specs::Pass::ended_all))]
 fn end_all(p: Progress, n: u16) -> Progress
     requires { p.end + n ≤ block_max }
     ensures { result ≡ ended_all p n }
 {
     let end = p.end + n;
     Progress {
-        end: end,
+        end,
         next: 256,
-        since: [end, end, end, end],
-        pending: [0, 0, 0, 0],
+        since: [end; 4],
+        pending: [0; 4],
     }
 }
 
 // A frame of n bytes that no list knows of, after which settled ids start at `next`.
+#[tactic(auto, unfolding(crate::specs::Pass::passed))]
 fn pass_over(p: Progress, next: usize, n: u16) -> Progress
     requires { p.end + n ≤ block_max }
     ensures { result ≡ passed p next n }
 {
-    let since = p.since;
-    let pending = p.pending;
     Progress {
         end: p.end + n,
-        next: next,
-        since: since,
-        pending: pending,
+        next,
+        ..p
     }
 }
 
 // One frame more. It lies in the block, whose offsets fit a u16; what is pending lies there too.
+#[tactic(auto, unfolding(crate::specs::Pass::took_frame, crate::specs::Pass::took_places))]
 pub fn take_frame(
     block: &[u8],
     edition: Edition,
@@ -149,19 +122,16 @@ pub fn take_frame(
     requires { (p.end + head_len edition head ≤ length block.now) × (length block.now ≤ block_max) × ((k : ℕ) → get_or p.pending k 0 ≤ p.end) }
     ensures { (result ≡ took_frame edition p head) × (places.new ≡ took_places edition block.now p head places.old) }
 {
-    let end = p.end;
     let size = frame::frame_len(edition, head) as u16;
     match head {
-        Head::Put(host, _, _) => grow(p, host, size),
-        Head::Delete(host, _) => grow(p, host, size),
+        Head::Put(host, _, _) | Head::Delete(host, _) => grow(p, host, size),
         Head::Commit(host) => {
-            let since = p.since;
-            commit_at(block, edition, end, since, host, places);
+            commit_at(block, edition, p.end, p.since, host, places);
             end_list(p, host, size)
         }
         Head::Abort(host) => end_list(p, host, size),
         Head::Settled(id, _) => {
-            store(places, id, end);
+            flash::set_at(places, id.0 as usize, p.end);
             pass_over(p, id.0 as usize + 1, size)
         }
         Head::Closed(_) => pass_over(p, 256, size),

@@ -1,12 +1,14 @@
 // What a step needs of a record's bytes: its numbers, and of its arrays what it looks at.
+#![tactic(auto, unfolding(lent::specs::Layout::record_in))]
+
 ghost use Rattle.std.specs.Prelude.{◌≡◌, length, drop, get_or};
 ghost use Rattle.frame.specs.Frame.{buffer_len};
 ghost use Rattle.job.specs.Code.{numbers_of, in_hand};
-ghost use Rattle.lent.specs.Layout.{bytes_in, record_in};
+ghost use Rattle.lent.specs.Layout.{bytes_in, words_in, record_in};
 
-use crate::{cursor_in, fill_places, frame_in, job_in, phase_of, places_in, rest_of, tail};
+use crate::{bytes_in, cursor_in, job_in, phase_of, rest_of, word_in};
 use board::{Phase, Stage};
-use flash::byte_at;
+use flash::{byte_at, front, rest};
 use frame::BUFFER_LEN;
 use job::records::Numbers;
 
@@ -17,8 +19,8 @@ pub fn numbers(bytes: &[u8]) -> Numbers
     Numbers {
         phase: phase_of(bytes),
         rest: rest_of(bytes),
-        job: job_in(tail(bytes, lent::JOB_AT)),
-        cursor: cursor_in(tail(bytes, lent::CURSOR_AT)),
+        job: job_in(rest(bytes, lent::JOB_AT)),
+        cursor: cursor_in(rest(bytes, lent::CURSOR_AT)),
     }
 }
 
@@ -26,7 +28,9 @@ pub fn numbers(bytes: &[u8]) -> Numbers
 pub fn places(bytes: &[u8]) -> [u16; 256]
     ensures { result ≡ (record_in bytes.now).places }
 {
-    places_in(tail(bytes, lent::PLACES_AT))
+    let mut places = [0; 256];
+    read_places(bytes, &mut places);
+    places
 }
 
 // An inner part of the C library: the places into an array that is lent, which has 256 by its type. By value they would stand on the
@@ -35,30 +39,50 @@ pub fn read_places(bytes: &[u8], places: &mut [u16; 256])
     requires { length places.old ≡ 256 }
     ensures { places.new ≡ (record_in bytes.now).places }
 {
-    fill_places(tail(bytes, lent::PLACES_AT), places);
+    fill_places(rest(bytes, lent::PLACES_AT), places);
+}
+
+// A step of C's decodes a record, so this loop tests nothing but its end. By index: what an iter_mut wrote no proof knows.
+fn fill_places(bytes: &[u8], places: &mut [u16; 256])
+    requires { length places.old ≡ 256 }
+    ensures { places.new ≡ words_in 256 bytes.now }
+{
+    if bytes.len() < lent::PLACES_SIZE {
+        places_short(bytes, places);
+        return;
+    }
+    for i in 0..256 {
+        places[i] = u16::from_le_bytes([bytes[2 * i], bytes[2 * i + 1]]);
+    }
+}
+
+// The same where the bytes may end among them, word by word.
+fn places_short(bytes: &[u8], places: &mut [u16; 256])
+    requires { length places.old ≡ 256 }
+    ensures { places.new ≡ words_in 256 bytes.now }
+{
+    for i in 0..256 {
+        places[i] = word_in(bytes, 2 * i);
+    }
 }
 
 pub fn unit(bytes: &[u8]) -> [u8; BUFFER_LEN]
     ensures { result ≡ (record_in bytes.now).unit }
 {
-    frame_in(tail(bytes, lent::UNIT_AT))
+    bytes_in(rest(bytes, lent::UNIT_AT))
 }
 
 pub fn append(bytes: &[u8]) -> [u8; BUFFER_LEN]
     ensures { result ≡ (record_in bytes.now).frame }
 {
-    frame_in(tail(bytes, lent::FRAME_AT))
+    bytes_in(rest(bytes, lent::FRAME_AT))
 }
 
 // A byte of a frame buffer that starts at a place.
 fn frame_byte(bytes: &[u8], at: usize, i: u8) -> u8
     ensures { result ≡ get_or (bytes_in buffer_len (drop at bytes.now)) i 0 }
 {
-    let k = i as usize;
-    if k < BUFFER_LEN {
-        return byte_at(tail(bytes, at), k);
-    }
-    0
+    byte_at(front(rest(bytes, at), BUFFER_LEN), usize::from(i))
 }
 
 pub fn unit_byte(bytes: &[u8], i: u8) -> u8
@@ -77,19 +101,9 @@ pub fn append_byte(bytes: &[u8], i: u8) -> u8
 pub fn in_hand(n: Numbers, bytes: &[u8]) -> u8
     ensures { result ≡ in_hand n (record_in bytes.now).unit (record_in bytes.now).frame }
 {
-    let phase = n.phase;
-    let cursor = n.cursor;
-    match phase {
-        Phase::Unmounted => return 0,
-        Phase::Idle => return 0,
-        Phase::Busy(stage) => match stage {
-            Stage::Wipe => return 0,
-            Stage::Open => return 0,
-            Stage::Copy => return unit_byte(bytes, cursor.off),
-            Stage::Seal => return 0,
-            Stage::Drop => return 0,
-            Stage::Append => return append_byte(bytes, cursor.index),
-            Stage::Close => return 0,
-        },
+    match n.phase {
+        Phase::Busy(Stage::Copy) => unit_byte(bytes, n.cursor.off),
+        Phase::Busy(Stage::Append) => append_byte(bytes, n.cursor.index),
+        _ => 0,
     }
 }

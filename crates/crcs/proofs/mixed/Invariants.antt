@@ -1,6 +1,6 @@
--- The loop ends.
-use Prim.Native.Nat.{◌-◌}
+-- x stays below the modulus.
+use Rattle.std.proofs.Common.{◌<◌}
 use Rattle.crcs.proofs.mixed.Given as goal
 
-abbrev pub decreases-loop-i : goal.decreases-loop-i
-decreases-loop-i l = 301 - l.i
+abbrev pub invariant-loop-byte : goal.invariant-loop-byte
+invariant-loop-byte l = l.x < 65537

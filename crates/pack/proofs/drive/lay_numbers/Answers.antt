@@ -7,4 +7,4 @@ pub returns : goal.returns
 unfolding numbers_into
 returns c =
     c.lay_at-4.ensures
-    ∙ rw (c.lay_at-3.ensures, c.lay_at-2.ensures, c.lay_at.ensures, c.head_bytes-head.ensures, c.plan_bytes-plan.ensures, c.cursor_bytes-cursor.ensures)
+    ∙ rw (c.lay_at-3.ensures, c.lay_at-2.ensures, c.lay_at.ensures, c.head_bytes.ensures, c.plan_bytes.ensures, c.cursor_bytes.ensures)

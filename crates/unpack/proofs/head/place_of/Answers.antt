@@ -7,13 +7,13 @@ use Rattle.lent.proofs.Words.{word_from}
 use Rattle.lent.proofs.Own.{length_words_in}
 use Rattle.unpack.proofs.head.place_of.Goals as goal
 
-pub returns-then-i-lt256 : goal.returns-then-i-lt256
+pub returns-then-id-lt256 : goal.returns-then-id-lt256
 unfolding record_in
-returns-then-i-lt256 c =
-    c.word_in.ensures ∙ word_from places_at 256 c.args.bytes.now c.args.id.0 (omega (arith, c.if-i-lt256.true))
+returns-then-id-lt256 c =
+    (rw c.from.ensures at c.word_in.ensures) ∙ word_from places_at 256 c.args.bytes.now c.args.id.0 (omega (arith, c.if-id-lt256.true))
 
-pub returns : goal.returns
+pub returns-else-id-lt256 : goal.returns-else-id-lt256
 unfolding record_in
-returns c =
+returns-else-id-lt256 c =
     let l = drop places_at c.args.bytes.now in
-    sym (get_or-eq_default (words_in 256 l) 0 (omega (arith, length_words_in 256 l, c.if-i-lt256.false)))
+    sym (get_or-eq_default (words_in 256 l) 0 (omega (arith, length_words_in 256 l, c.if-id-lt256.false)))
