@@ -7,7 +7,7 @@ use native.Mathlib.Omega.{arith}
 use lib.Dec.{eqb, ltb}
 use lib.ListN.{length}
 use borrow.Author.Tests.{lt-ltb, le-ltb}
-use Rattle.std.specs.Prelude.{Option, Some, None, Result, Ok, Err, MatchResult}
+use Rattle.std.specs.Prelude.{Option, Some, None, Result, Ok, Err}
 use Rattle.flash.specs.Bytes.{Bytes}
 use Rattle.flash.specs.Flash.{block_numbers, block, size_of}
 use Rattle.flash.proofs.Cases.{on_test}
@@ -29,7 +29,6 @@ use Rattle.board.specs.Mount.{next_block, new_time, Found, all_found, Store, sto
 use Rattle.board.specs.Mount.{time_of, appends_for, tied_times, mount_at, mount_stores, mount_on, numbers_but, order_for, format_order, format_on}
 use Rattle.board.proofs.Found.{Among, newest-among, among_holds}
 use Rattle.board.proofs.Outcomes.{mount-stores, format-begins}
-use Rattle.job.specs.declared.Outcome.{Outcome}
 use Rattle.job.specs.declared.records.Numbers.{Numbers}
 use Rattle.job.specs.declared.records.Stepped.{Stepped}
 use Rattle.job.specs.Code.{assemble, going, over, leaves, leaves_if, go_append, go_close, go_open, go_wipe, begins}
@@ -37,7 +36,7 @@ use Rattle.job.proofs.Entering.{wipe_leaves}
 use Rattle.looks.specs.declared.looks.Newest.{Newest}
 use Rattle.looks.specs.declared.looks.Seen.{Seen}
 use Rattle.store.specs.declared.mends.Mend.{Mend}
-use Rattle.store.specs.Calls.{made, ends, places_after, Gives, or_refused, refused}
+use Rattle.store.specs.Calls.{ends, places_after, Gives, or_refused, refused}
 use Rattle.store.specs.Mends.{mend_in, reset_in}
 use Rattle.looks.specs.Surveys.{next_time}
 use Rattle.looks.specs.Seen.{Erases, erases_of, others_in, kept_of, newest_in, tie_in, store_places, places_for, Sees}
@@ -45,15 +44,6 @@ use Rattle.store.specs.Mounts.{mount_plan, mount_in, mount_taken, unless_tied, m
 use Rattle.looks.proofs.Looked.{state_at, Held, NewestHeld, newest_held}
 use Rattle.store.proofs.Ordering.{but-none}
 use Rattle.store.proofs.Mending.{stands_is, laid-is, mend_is}
-
--- the record put together
-pub made_is : {p f : List ℕ} {s : Stepped} {o : Out} {x : Outcome} → x ≡ made p f s → Gives p f s o → (x.answer ≡ o.answer) × (x.board ≡ o.board)
-made_is e g = (ap (λ (y : Outcome). y.answer) e ∙ g.answers, ap (λ (y : Outcome). y.board) e ∙ g.gives)
-
--- as std's method says it
-pub or_refused_is : (r : Result Stepped Refusal) {s : Stepped} → MatchResult r (λ x. s ≡ x) (λ e. s ≡ refused e) → s ≡ or_refused r
-or_refused_is (Ok x) h = h
-or_refused_is (Err e) h = h
 
 -- a refusal, which leaves no places and no frame
 pub refusal_given : {img p f : List ℕ} {s : Stepped} {o : Out} (why : Refusal) → o ≡ refuse why img unmounted [] → s ≡ refused why

@@ -17,4 +17,4 @@ returns c =
     let i = c.in_ok-image.image in
     rw (sym c.in_ok-image.ensures.0, sym c.in_ok-image.ensures.1)
     (rw (c.begin.ensures, c.starting-cursor.ensures, c.standing-rest.ensures, c.next_block.ensures, c.last.ensures, c.no_job.ensures)
-    (format-is i.blocks i.bytes.now c.format_order-order.result i.is_allowed c.format_order-order.ensures))
+    (format-is _ _ c.format_order-order.result i.is_allowed c.format_order-order.ensures))

@@ -17,10 +17,10 @@ returns-in_err-image c =
 pub mount_seen-requires : goal.mount_seen-requires
 mount_seen-requires c =
     let i = c.in_ok-image.image in
-    newest_fits i.blocks i.bytes.now i.is_allowed (bytes_of i.bytes.now i.are_bytes) c.look-seen.ensures
+    newest_fits _ _ i.is_allowed (bytes_of i.bytes.now i.are_bytes) c.look-seen.ensures
 
 pub returns : goal.returns
 returns c =
     let i = c.in_ok-image.image in
     rw (sym c.in_ok-image.ensures.0, sym c.in_ok-image.ensures.1, c.mount_seen.ensures)
-    (mount_is i.blocks i.bytes.now _ i.is_allowed (bytes_of i.bytes.now i.are_bytes) c.look-seen.ensures)
+    (mount_is _ _ _ i.is_allowed (bytes_of i.bytes.now i.are_bytes) c.look-seen.ensures)
