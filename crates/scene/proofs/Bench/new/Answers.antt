@@ -1,5 +1,5 @@
--- `scene::new` is a bench before any call.
-use Rattle.scene.proofs.new.Goals as goal
+-- `Bench::new` is a bench before any call.
+use Rattle.scene.proofs.Bench.new.Goals as goal
 
 pub returns : goal.returns
-returns c = rw c.unmounted-board.ensures
+returns c = rw c.unmounted.ensures
