@@ -1,4 +1,6 @@
 // A line of the script, taken apart.
+ghost use Rattle.std.specs.Prelude.{◌≡◌, ◌==◌, ◌+◌, ◌<◌, [], length, take, drop, position, IfSome, MatchOption};
+
 use arrayvec::ArrayVec;
 
 // A line that can't be read.
@@ -121,9 +123,20 @@ impl Call {
     }
 }
 
+// Where a byte stands first.
+fn find(s: &[u8], byte: u8) -> Option<usize>
+    ensures place { result ≡ position (λ b. b == byte) s.now }
+    ensures within { IfSome result (λ at. at < length s.now) }
+{
+    s.iter().position(|b| *b == byte)
+}
+
 // What stands before a byte's first place, and after it.
-pub fn cut(s: &[u8], byte: u8) -> (&[u8], &[u8]) {
-    match s.iter().position(|b| *b == byte) {
+pub fn cut(s: &[u8], byte: u8) -> (&[u8], &[u8])
+    ensures { MatchOption (position (λ b. b == byte) s.now) ((result.0.now ≡ s.now) × (result.1.now ≡ []))
+        (λ at. (result.0.now ≡ take at s.now) × (result.1.now ≡ drop (at + 1) s.now)) }
+{
+    match find(s, byte) {
         Some(at) => (&s[..at], &s[at + 1..]),
         None => (s, &[]),
     }

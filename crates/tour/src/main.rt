@@ -70,7 +70,7 @@ fn show(d: Bench, call: Call, message: &[u8], text: &[u8]) {
 }
 
 // The store as it stands, and those that the script goes back to.
-#[derive(Clone, Copy)]
+#[derive(Drop)]
 struct Tour {
     now: Bench,
     kept: [Bench; 4],
