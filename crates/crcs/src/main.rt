@@ -1,29 +1,28 @@
 // 1,159 CRCs. The file stdout has what a second program, scripts/crcs, says of the same inputs.
+// It prints by the kit's io: std's print! would assume more functions of C.
 #![tactic(auto)]
 
-use std::io;
-
 // Sixteen in a line.
-fn show(rt: &impl Print, at: usize, crc: u32) -> io::Result<()> {
-    let gap = if at % 16 == 0 { '\n' } else { ' ' };
-    print!(rt; "{gap}{crc:08x}")
+fn show(at: usize, crc: u32) {
+    io::write_all(1, if at % 16 == 0 { b"\n" } else { b" " });
+    io::print_hex(1, u64::from(crc), 8);
 }
 
 // Of the first bytes, for each length below all.
-fn fronts(rt: &impl Print, what: &str, s: &[u8]) -> io::Result<()> {
-    print!(rt; "{what}")?;
+fn fronts(what: &[u8], s: &[u8]) {
+    io::write_all(1, what);
     for n in 0..s.len() {
-        show(rt, n, crc::crc32(&s[..n]))?;
+        show(n, crc::crc32(&s[..n]));
     }
-    println!(rt;)
+    io::write_all(1, b"\n");
 }
 
-fn singles(rt: &impl Print) -> io::Result<()> {
-    print!(rt; "single bytes")?;
+fn singles() {
+    io::write_all(1, b"single bytes");
     for byte in 0..=u8::MAX {
-        show(rt, usize::from(byte), crc::crc32(&[byte]))?;
+        show(usize::from(byte), crc::crc32(&[byte]));
     }
-    println!(rt;)
+    io::write_all(1, b"\n");
 }
 
 fn mixed() -> [u8; 301] {
@@ -36,9 +35,9 @@ fn mixed() -> [u8; 301] {
     s
 }
 
-fn main(rt: HostRuntime) -> io::Result<()> {
-    fronts(&rt, "0 to 300 mixed bytes", &mixed())?;
-    fronts(&rt, "0 to 300 bytes 00", &[0x00; 301])?;
-    fronts(&rt, "0 to 300 bytes ff", &[0xFF; 301])?;
-    singles(&rt)
+fn main() {
+    fronts(b"0 to 300 mixed bytes", &mixed());
+    fronts(b"0 to 300 bytes 00", &[0x00; 301]);
+    fronts(b"0 to 300 bytes ff", &[0xFF; 301]);
+    singles();
 }

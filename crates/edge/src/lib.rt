@@ -7,5 +7,5 @@ mod steps;
 pub use next::{Telling, tell};
 pub use steps::{go_on, step_numbers};
 
-// The answer to a record buffer of another size.
+// The answer to a record buffer of another size, in C's numbers.
 pub const WRONG_RECORD: u8 = 254;

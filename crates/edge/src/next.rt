@@ -15,6 +15,7 @@ const ERASE: u8 = 253;
 // What a flash step leaves in a byte that it erases.
 const ERASED: u8 = 255;
 
+// What grommetide_next tells: numbers in place of an enum, since they are C's interface.
 #[derive(Clone, Copy)]
 pub struct Telling {
     pub answer: u8,
@@ -23,11 +24,12 @@ pub struct Telling {
     pub byte: u8,
 }
 
+// No flash step.
 fn nothing(answer: u8) -> Telling
     ensures { told result.answer result.at result.size result.byte ≡ told answer 0 0 0 }
 {
     Telling {
-        answer: answer,
+        answer,
         at: 0,
         size: 0,
         byte: 0,
@@ -38,19 +40,19 @@ pub fn tell(next: Next) -> Telling
     ensures { told result.answer result.at result.size result.byte ≡ tells next }
 {
     match next {
-        Next::Program(place, value) => return Telling {
+        Next::Program(at, byte) => Telling {
             answer: PROGRAM,
-            at: place,
+            at,
             size: 1,
-            byte: value,
+            byte,
         },
-        Next::Erase(place, count) => return Telling {
+        Next::Erase(at, size) => Telling {
             answer: ERASE,
-            at: place,
-            size: count,
+            at,
+            size,
             byte: ERASED,
         },
-        Next::Nothing => return nothing(DONE),
-        Next::Refused(why) => return nothing(wire::number(Answer::Refused(why))),
+        Next::Nothing => nothing(DONE),
+        Next::Refused(why) => nothing(wire::number(Answer::Refused(why))),
     }
 }

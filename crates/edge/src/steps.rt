@@ -53,7 +53,6 @@ pub fn step_numbers(image: &mut [u8], blocks: u8, board: &mut [u8]) -> u8
         return WRONG_RECORD;
     }
     let n = unpack::numbers(board);
-    let phase = n.phase;
     let m = job::try_step(image, blocks, n, unpack::in_hand(n, board));
-    go_on(image, blocks, phase, m, board)
+    go_on(image, blocks, n.phase, m, board)
 }

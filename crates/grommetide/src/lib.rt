@@ -52,8 +52,7 @@ pub extern "C" fn grommetide_fault(
 {
     let mut places = records::no_places();
     let mut frame = records::no_frame();
-    let mounted = store::mount_core(image, blocks, &mut places, &mut frame);
-    let answer = mounted.answer;
+    let answer = store::mount_core(image, blocks, &mut places, &mut frame).answer;
     let spot = wire::spot_of(answer);
     *block = spot.half as usize;
     *field = spot.field;
@@ -95,10 +94,10 @@ pub extern "C" fn grommetide_request(
     }
     let phase = unpack::phase_of(board);
     let rest = unpack::rest_of(board);
-    let mut recorded = [0u16; 256];
+    let mut recorded = [0; 256];
     unpack::read_places(board, &mut recorded);
-    let mut places = [0u16; 256];
-    let mut frame = [0u8; BUFFER_LEN];
+    let mut places = [0; 256];
+    let mut frame = [0; BUFFER_LEN];
     let s = queue::request_core(
         image,
         blocks,

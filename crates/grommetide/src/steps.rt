@@ -36,9 +36,8 @@ pub extern "C" fn grommetide_made(image: &[u8], blocks: u8, board: &mut [u8]) ->
         return WRONG_RECORD;
     }
     let n = unpack::numbers(board);
-    let phase = n.phase;
     let m = job::made_of(image.len(), blocks, n);
-    edge::go_on(image, blocks, phase, m, board)
+    edge::go_on(image, blocks, n.phase, m, board)
 }
 
 #[unsafe(no_mangle)]
@@ -57,18 +56,15 @@ pub extern "C" fn grommetide_run(
     if board.len() != RECORD_SIZE {
         return WRONG_RECORD;
     }
-    let mut places = [0u16; 256];
+    let mut places = [0; 256];
     unpack::read_places(board, &mut places);
     let mut unit = unpack::unit(board);
     let frame = unpack::append(board);
     let n = unpack::numbers(board);
     let ran = drive::run_core(image, blocks, n, &mut places, &mut unit, &frame, most);
     *steps = ran.steps;
-    let s = ran.stepped;
-    let answer = s.answer;
-    if ran.steps == 0 {
-        return wire::number(answer);
+    if ran.steps != 0 {
+        pack::write_loaded(ran.stepped, &places, &unit, board);
     }
-    pack::write_loaded(s, &places, &unit, board);
-    wire::number(answer)
+    wire::number(ran.stepped.answer)
 }

@@ -1,4 +1,5 @@
-// The store's calls over a board record that is lent and changed in place.
+// The store's calls over a board record that is lent and changed in place. Document 01 has a step and a request take the record
+// apart, call the function by value and store what it gives (DECISIONS 80, 82): so they don't hand on `*board` whole.
 #![tactic(auto)]
 
 ghost use Rattle.std.specs.Prelude.{◌≡◌};
@@ -17,17 +18,26 @@ pub fn step_in_place(image: &mut [u8], blocks: u8, board: &mut Record) -> Answer
     ensures { (let o : Out = step_on blocks image.old board.old in
         (image.new ≡ o.image) × (result ≡ o.answer) × (board.new ≡ o.board)) }
 {
+    let Record {
+        phase,
+        rest,
+        places,
+        job,
+        cursor,
+        unit,
+        frame,
+    } = *board;
     let out = job::step(
         image,
         blocks,
         Record {
-            phase: board.phase,
-            rest: board.rest,
-            places: board.places,
-            job: board.job,
-            cursor: board.cursor,
-            unit: board.unit,
-            frame: board.frame,
+            phase,
+            rest,
+            places,
+            job,
+            cursor,
+            unit,
+            frame,
         },
     );
     *board = out.board;
@@ -46,17 +56,26 @@ pub fn request_in_place(
     ensures { (let o : Out = request_on (asking blocks image.now board.old host message.now reply.old) in
         (result ≡ o.answer) × (board.new ≡ o.board) × (reply.new ≡ o.reply)) }
 {
+    let Record {
+        phase,
+        rest,
+        places,
+        job,
+        cursor,
+        unit,
+        frame,
+    } = *board;
     let out = queue::request(
         image,
         blocks,
         Record {
-            phase: board.phase,
-            rest: board.rest,
-            places: board.places,
-            job: board.job,
-            cursor: board.cursor,
-            unit: board.unit,
-            frame: board.frame,
+            phase,
+            rest,
+            places,
+            job,
+            cursor,
+            unit,
+            frame,
         },
         host,
         message,
@@ -93,7 +112,7 @@ pub fn step_lent(image: &mut [u8], blocks: u8, board: Record) -> Outcome
     let mut held = board;
     let answer = step_in_place(image, blocks, &mut held);
     Outcome {
-        answer: answer,
+        answer,
         board: held,
     }
 }
@@ -112,7 +131,7 @@ pub fn request_lent(
     let mut kept = board;
     let answer = request_in_place(image, blocks, &mut kept, host, message, reply);
     Outcome {
-        answer: answer,
+        answer,
         board: kept,
     }
 }

@@ -24,3 +24,8 @@ module _ (N : ℕ) (img : List ℕ) (k : ℕ) (a : allowed N (length img) ≡ tr
   -- what a survey asks of a block
   pub block_fits : (16 ≤ length (block (size_of N img) k img)) × (length (block (size_of N img) k img) ≤ 32768)
   block_fits = let z : Sized N (size_of N img) img = sized_of N img a in omega (arith, z.low, z.high, block_length)
+
+-- its length less one fits the record
+pub length_within : (N : ℕ) (img : List ℕ) → allowed N (length img) ≡ true → (1 ≤ length img) × (length img ≤ 65536)
+length_within N img a =
+    let z : Sized N (size_of N img) img = sized_of N img a in omega (arith, z.low, z.short, sized-block 0 z (omega (arith, z.few)))

@@ -11,8 +11,7 @@ use lib.Seq.{set-append_seam}
 use Rattle.flash.specs.Flash.{max_blocks, numbers_from, block_numbers}
 use Rattle.flash.proofs.Cases.{on_test}
 use Rattle.board.specs.Mount.{wipe_array}
-use Rattle.looks.specs.declared.lists.Erases.{Erases}
-use Rattle.looks.specs.Seen.{erases_of, noted, others_in}
+use Rattle.looks.specs.Seen.{Erases, erases_of, noted, others_in}
 
 pub numbers_next : (k N : ℕ) → k < N → numbers_from k (N - k) ≡ k ∷ numbers_from (suc k) (N - suc k)
 unfolding numbers_from
@@ -21,7 +20,7 @@ numbers_next k N h = let e : N - k ≡ suc (N - suc k) = omega arith in rw e
 -- ---- one more block
 
 abbrev erases : List ℕ → ℕ → Erases
-erases w n = record { wipe = w; count = n }
+erases w n = record { items = w; count = n }
 
 wipe-more : (ks : List ℕ) (k : ℕ) → length ks < max_blocks → set (wipe_array ks) (length ks) k ≡ wipe_array (ks ++ (k ∷ []))
 wipe-more ks k h =
@@ -48,10 +47,11 @@ module _ (N c : ℕ) (skips : List Bool) where
   pub listed_none : Listed N c skips 0 (erases_of [])
   listed_none = record { done = []; is = refl; few = omega arith; whole = ap (λ (n : ℕ). others_in c skips (numbers_from 0 n)) (sub-zero N) }
 
-  pub listed_next : (k : ℕ) (l : Erases) → k < N → k < max_blocks → Listed N c skips k l
-      → Listed N c skips (suc k) (noted l k (not (eqb c k || get_or skips k false)))
-  listed_next k l h r x =
-      on_test (eqb c k || get_or skips k false)
+  -- block k is noted where that is due
+  pub listed_next : (k : ℕ) (l : Erases) (due : Bool) → not (eqb c k || get_or skips k false) ≡ due → k < N → k < max_blocks → Listed N c skips k l
+      → Listed N c skips (suc k) (noted l k due)
+  listed_next k l due e h r x =
+      rw (sym e) (on_test (eqb c k || get_or skips k false)
       (λ t. rw t (record { done = x.done; is = x.is; few = omega (arith, x.few); whole = sym (passed t) ∙ x.whole }))
       (λ t. rw t
       (record {
@@ -59,7 +59,7 @@ module _ (N c : ℕ) (skips : List Bool) where
         is = ap (λ (m : Erases). noted m k true) x.is ∙ note_more x.done k (omega (arith, x.few));
         few = omega (arith, x.few, length-append x.done (k ∷ []));
         whole = append_assoc x.done (k ∷ []) others ∙ sym (taken t) ∙ x.whole;
-      }))
+      })))
     where
       others : List ℕ
       others = others_in c skips (numbers_from (suc k) (N - suc k))

@@ -6,6 +6,7 @@ use Prim.Native.Nat.{ℕ, suc, ◌+◌, ◌-◌, ◌≤◌, ◌<◌}
 use native.Mathlib.Omega.{arith}
 use native.Mathlib.Nat.{sub-zero}
 use lib.ListN.{length}
+use Rattle.std.specs.Prelude.{Option, IfSome}
 use Rattle.flash.specs.Bytes.{Bytes}
 use Rattle.flash.specs.Flash.{numbers_from, block, size_of}
 use Rattle.flash.proofs.Image.{bytes-block}
@@ -104,9 +105,10 @@ module _ (N : ℕ) (img : List ℕ) (a : allowed N (length img) ≡ true) (b : B
           }
 
   -- it has room for its torn frame
-  pub newest_fits : {p : List ℕ} {z : Seen} {q : List ℕ} → Sees N img p z q → z.newest.end + z.newest.torn ≤ block_max
-  newest_fits {p} {z} x = subst (λ (w : Newest). w.end + w.torn ≤ block_max) (sym x.newest) (go (stores (all_found N img)) newest_held)
+  pub newest_fits : {p : List ℕ} {z : Seen} {q : List ℕ} → Sees N img p z q → IfSome z.newest (λ w. w.end + w.torn ≤ block_max)
+  newest_fits {p} {z} x =
+      subst (λ (o : Option Newest). IfSome o (λ w. w.end + w.torn ≤ block_max)) (sym x.newest) (go (stores (all_found N img)) newest_held)
     where
-      go : (xs : List Store) → NewestHeld N img xs → (newest_in xs).end + (newest_in xs).torn ≤ block_max
-      go [] h = omega arith
+      go : (xs : List Store) → NewestHeld N img xs → IfSome (newest_in xs) (λ w. w.end + w.torn ≤ block_max)
+      go [] h = tt
       go (y ∷ ys) h = omega (arith, closed_fits h.holds, h.long, (sized_of N img a).high)

@@ -1,13 +1,14 @@
 -- One look at the blocks, the last first: what it keeps is what the definitions say of them.
-use mathlib.Core.Path.{◌≡◌, refl, sym, ap, subst, ◌∙◌}
+use mathlib.Core.Path.{◌≡◌, refl, sym, ap, ap₂, subst, ◌∙◌}
 use mathlib.Core.List.{List, [], ◌∷◌}
-use mathlib.Core.Bool.{Bool, true, false, ◌||◌, cond}
-use Prim.Native.Nat.{ℕ, zero, suc, ◌≤◌, ◌<◌}
+use mathlib.Core.Bool.{Bool, false, ◌||◌, cond}
+use Prim.Native.Nat.{ℕ, zero, suc, ◌+◌, ◌-◌, ◌<◌}
 use native.Mathlib.Omega.{arith}
+use native.Mathlib.Numerals.{add-one}
 use lib.Dec.{eqb, ltb, leb}
-use lib.ListN.{length, get_or, drop, set, replicate, length-set, drop_of_length-le}
-use lib.Seq.{drop-cons, get_or-set_same, get_or-set_other}
-use borrow.Author.Tests.{eq-eqb, ne_eqb, lt-ltb, le-ltb, le-leb, lt-leb, ltb-true, ltb-false}
+use lib.ListN.{length, get_or, take, drop, set, replicate, length-set, length-drop}
+use lib.Seq.{get_or-set_same, get_or-set_other}
+use borrow.Author.Tests.{eqb-true, eqb-false, eq-eqb, ne_eqb, lt-ltb, le-ltb, le-leb, lt-leb, ltb-true, ltb-false}
 use Rattle.flash.specs.Flash.{max_blocks, numbers_from}
 use Rattle.flash.proofs.Cases.{on_test}
 use Rattle.frame.specs.Frame.{edition_number}
@@ -17,10 +18,12 @@ use Rattle.wire.specs.declared.Refusal.{Refusal}
 use Rattle.board.specs.Mount.{Found, is_blank, Store, store_in, stores, same_time, newest, tied, wipe_list, end_of, replay_of, time_of}
 use Rattle.board.specs.Mount.{or_foreign, none_valid}
 use Rattle.looks.specs.declared.looks.Newest.{Newest}
-use Rattle.looks.specs.declared.looks.Tie.{Tie}
+use Rattle.std.specs.Prelude.{Option, Some}
+use Rattle.std.specs.List.{list_any}
+use Rattle.std.proofs.lemmas.List.{take_all, drop-set}
 use Rattle.looks.specs.declared.looks.Seen.{Seen}
 use Rattle.looks.specs.Surveys.{is_blank_kind, or_foreign_kind, pends_in}
-use Rattle.looks.specs.Seen.{others_in, some_of, kept_of, newest_in, tie_in, store_places, places_for, none_seen_of, has_time, takes_over, newer, tying, seeing}
+use Rattle.looks.specs.Seen.{others_in, some_of, kept_of, newest_in, tie_in, store_places, places_for, none_seen_of, has_time, no_older, takes_over, newer, tying, seeing}
 use Rattle.looks.specs.Seen.{same_above}
 
 -- ---- the newest, with one more in front
@@ -43,18 +46,18 @@ newest-cons x y (z ∷ zs) =
     newer-of x y (newest z zs) (newest x (z ∷ zs)) (newest y (z ∷ zs)) (newest-cons x z zs) (newest-cons y z zs)
 
 newest-more : (x : Store) (xs : List Store)
-    → cond (leb (newest_in xs).time (time_of x)) (kept_of x (same_time (time_of x) xs)) (newest_in xs) ≡ newest_in (x ∷ xs)
-newest-more x [] = rw (le-leb 0 (time_of x) (omega arith), eq-eqb (time_of x) (time_of x) refl)
+    → cond (no_older (newest_in xs) (time_of x)) (Some (kept_of x (same_time (time_of x) xs))) (newest_in xs) ≡ newest_in (x ∷ xs)
+newest-more x [] = rw (eq-eqb (time_of x) (time_of x) refl)
 newest-more x (y ∷ ys) = go (newest y ys) (newest x (y ∷ ys)) (newest-cons x y ys)
   where
     go : (w v : Store) → v ≡ cond (ltb (time_of x) (time_of w)) w x
-        → cond (leb (time_of w) (time_of x)) (kept_of x (same_time (time_of x) (y ∷ ys))) (kept_of w (tied (time_of w) (y ∷ ys)))
-        ≡ kept_of v (tied (time_of v) (x ∷ y ∷ ys))
+        → cond (leb (time_of w) (time_of x)) (Some (kept_of x (same_time (time_of x) (y ∷ ys)))) (Some (kept_of w (tied (time_of w) (y ∷ ys))))
+        ≡ Some (kept_of v (tied (time_of v) (x ∷ y ∷ ys)))
     go w v e =
         let zs : List Store = y ∷ ys in
-        let old : Bool → Newest = λ b. cond b (kept_of x (same_time (time_of x) zs)) (kept_of w (tied (time_of w) zs)) in
-        let Is : Store → Type 0 = λ u. old (leb (time_of w) (time_of x)) ≡ kept_of u (tied (time_of u) (x ∷ zs)) in
-        let all : (u : Store) → Bool → Newest = λ u b. kept_of u (cond b (same_time (time_of u) zs) (tied (time_of u) zs)) in
+        let old : Bool → Option Newest = λ b. cond b (Some (kept_of x (same_time (time_of x) zs))) (Some (kept_of w (tied (time_of w) zs))) in
+        let Is : Store → Type 0 = λ u. old (leb (time_of w) (time_of x)) ≡ Some (kept_of u (tied (time_of u) (x ∷ zs))) in
+        let all : (u : Store) → Bool → Option Newest = λ u b. Some (kept_of u (cond b (same_time (time_of u) zs) (tied (time_of u) zs))) in
         on_test (ltb (time_of x) (time_of w))
         (λ t. let l = ltb-true (time_of x) (time_of w) t in
         let n : v ≡ w = e ∙ ap (λ (b : Bool). cond b w x) t in
@@ -65,11 +68,10 @@ newest-more x (y ∷ ys) = go (newest y ys) (newest x (y ∷ ys)) (newest-cons x
         (ap old (le-leb (time_of w) (time_of x) (ltb-false (time_of x) (time_of w) t)) ∙ ap (all x) (sym (eq-eqb (time_of x) (time_of x) refl))))
 
 -- the same by what was kept so far
-newer-is : (x : Store) (xs : List Store) {w : Newest} {m same : Bool} → w ≡ newest_in xs → m ≡ some_of (replay_of x.journal).pending
+newer-is : (x : Store) (xs : List Store) {w : Option Newest} {m same : Bool} → w ≡ newest_in xs → m ≡ some_of (replay_of x.journal).pending
     → same ≡ same_time (time_of x) xs
-    → cond (leb w.time (time_of x))
-    (record {
-      valid = true;
+    → cond (no_older w (time_of x))
+    (Some (record {
       number = x.number;
       time = time_of x;
       end = end_of x.journal;
@@ -77,13 +79,13 @@ newer-is : (x : Store) (xs : List Store) {w : Newest} {m same : Bool} → w ≡ 
       pends = m;
       shared = same;
       edition = edition_number x.journal.edition;
-    })
+    }))
     w ≡ newest_in (x ∷ xs)
 newer-is x xs e f g = rw (e, f, g) (newest-more x xs)
 
 places-more : (p : List ℕ) (x : Store) (xs : List Store)
-    → cond (leb (newest_in xs).time (time_of x)) (store_places x) (places_for p xs) ≡ places_for p (x ∷ xs)
-places-more p x [] = rw (le-leb 0 (time_of x) (omega arith))
+    → cond (no_older (newest_in xs) (time_of x)) (store_places x) (places_for p xs) ≡ places_for p (x ∷ xs)
+places-more p x [] = refl
 places-more p x (y ∷ ys) = go (newest y ys) (newest x (y ∷ ys)) (newest-cons x y ys)
   where
     go : (w v : Store) → v ≡ cond (ltb (time_of x) (time_of w)) w x
@@ -93,21 +95,16 @@ places-more p x (y ∷ ys) = go (newest y ys) (newest x (y ∷ ys)) (newest-cons
         (λ t. rw (t, lt-leb (time_of w) (time_of x) (ltb-true (time_of x) (time_of w) t)))
         (λ t. rw (t, le-leb (time_of w) (time_of x) (ltb-false (time_of x) (time_of w) t))))
 
-places_is : (p : List ℕ) (x : Store) (xs : List Store) {w : Newest} {q : List ℕ} → w ≡ newest_in xs → q ≡ places_for p xs
-    → cond (leb w.time (time_of x)) (store_places x) q ≡ places_for p (x ∷ xs)
+places_is : (p : List ℕ) (x : Store) (xs : List Store) {w : Option Newest} {q : List ℕ} → w ≡ newest_in xs → q ≡ places_for p xs
+    → cond (no_older w (time_of x)) (store_places x) q ≡ places_for p (x ∷ xs)
 places_is p x xs e f = rw (e, f) (places-more p x xs)
 
-tie-more : (x : Store) (xs : List Store) (q : Tie) (same : Bool) → q ≡ tie_in xs → same ≡ same_time (time_of x) xs
+tie-more : (x : Store) (xs : List Store) (q : Option ℕ) (same : Bool) → q ≡ tie_in xs → same ≡ same_time (time_of x) xs
     → tying q x.number same ≡ tie_in (x ∷ xs)
 unfolding tying
 tie-more x xs q same e f = rw (e, f) (on_test (same_time (time_of x) xs) (λ t. rw t) (λ t. rw t))
 
 -- ---- the arrays
-
-drop-set : {A : Type 0} (l : List A) (k : ℕ) (v : A) → k < length l → drop k (set l k v) ≡ v ∷ drop (suc k) l
-drop-set [] k v h = absurd (omega arith)
-drop-set (x ∷ l) zero v h = refl
-drop-set (x ∷ l) (suc k) v h = drop-set l k v (omega arith)
 
 no-time : (t m k : ℕ) → 0 < t → has_time t (drop k (replicate m 0)) ≡ false
 no-time t zero zero h = refl
@@ -115,15 +112,22 @@ no-time t zero (suc k) h = refl
 no-time t (suc m) zero h = rw (ne_eqb t 0 (λ e. omega arith)) (no-time t m zero h)
 no-time t (suc m) (suc k) h = no-time t m k h
 
--- a search from a place on: found here, further on, or nowhere
-pub time-here : (t i : ℕ) (l : List ℕ) → i < length l → get_or l i 0 ≡ t → has_time t (drop i l) ≡ true
-time-here t i l h e = rw (drop-cons l i 0 h, eq-eqb t (get_or l i 0) (sym e))
+eqb_comm : (x t : ℕ) → eqb x t ≡ eqb t x
+eqb_comm x t =
+    on_test (eqb x t)
+    (λ e. e ∙ sym (eq-eqb t x (sym (eqb-true x t e))))
+    (λ e. e ∙ sym (ne_eqb t x (λ q. eqb-false x t e (sym q))))
 
-pub time-on : (t i : ℕ) (l : List ℕ) → i < length l → (get_or l i 0 ≡ t → ⊥) → has_time t (drop i l) ≡ has_time t (drop (suc i) l)
-time-on t i l h e = rw (drop-cons l i 0 h, ne_eqb t (get_or l i 0) (λ q. e (sym q)))
+-- as a slice searches
+pub time-any : (t : ℕ) (l : List ℕ) → list_any (λ x. eqb x t) l ≡ has_time t l
+time-any t [] = refl
+time-any t (x ∷ l) = ap₂ (λ (a b : Bool). a || b) (eqb_comm x t) (time-any t l)
 
-pub time-past : (t i : ℕ) (l : List ℕ) → length l ≤ i → has_time t (drop i l) ≡ false
-time-past t i l h = rw (drop_of_length-le l h)
+-- past place i of a record's times
+pub time-above : (t i : ℕ) (l : List ℕ) → length l ≡ 16 → i < 16
+    → list_any (λ x. eqb x t) (take (16 - (i + 1)) (drop (i + 1) l)) ≡ has_time t (drop (suc i) l)
+time-above t i l e h =
+    rw (take_all (16 - (i + 1)) (drop (i + 1) l) (omega (arith, length-drop (i + 1) l)), add-one) (time-any t (drop (suc i) l))
 
 -- a store below the blocks listed
 others-above : (c j : ℕ) (b : Bool) (skips : List Bool) (k n : ℕ) → j < k
@@ -185,7 +189,7 @@ none_seen k p =
 
 module _ {k n : ℕ} {xs : List Found} {p : List ℕ} {z : Seen} {q : List ℕ} (h : k < max_blocks) (x : Seeing (suc k) n xs p z q) where
   times_next : (t u : ℕ) → 0 < t → has_time t (drop k (set z.times k u)) ≡ (eqb t u || same_time t (stores xs))
-  times_next t u l = rw (drop-set z.times k u (omega (arith, x.times_long)), x.times t l)
+  times_next t u l = rw (drop-set z.times k u (omega (arith, x.times_long)), add-one, x.times t l)
 
   others_next : (a : BlockState) (c : ℕ)
       → others_in c (set z.blanks k (is_blank_kind (kind_in a))) (numbers_from k (suc n)) ≡ wipe_list c (record { number = k; state = a } ∷ xs)

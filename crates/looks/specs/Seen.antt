@@ -1,5 +1,5 @@
 -- What one look at the blocks of an image keeps of them, and the lists of blocks to erase.
-use Rattle.std.specs.Prelude.{◌≡◌, List, [], ◌∷◌, Bool, true, false, ◌&&◌, ◌||◌, cond, ℕ, suc, eqb, leb, length, get_or, drop, set, replicate}
+use Rattle.std.specs.Prelude.{◌≡◌, List, [], ◌∷◌, Bool, true, false, ◌&&◌, ◌||◌, cond, ℕ, suc, eqb, leb, length, get_or, drop, set, replicate, Option, Some, None}
 use Rattle.flash.specs.Flash.{max_blocks, block_numbers}
 use Rattle.frame.specs.Frame.{edition_number}
 use Rattle.survey.specs.declared.Survey.{Survey}
@@ -8,20 +8,32 @@ use Rattle.journal.specs.Block.{torn_len}
 use Rattle.journal.specs.Index.{places_of}
 use Rattle.wire.specs.declared.Refusal.TheVariants as refusal
 use Rattle.board.specs.Mount.{all_found, Store, stores, equal_times, lowest_tied, newest, tied, wipe_list, wipe_array, end_of, replay_of, none_valid, time_of}
-use Rattle.looks.specs.declared.lists.Erases.{Erases}
+use Rattle.looks.specs.declared.lists.Counted.{Counted}
 use Rattle.looks.specs.declared.looks.Newest.{Newest}
-use Rattle.looks.specs.declared.looks.Tie.{Tie}
 use Rattle.looks.specs.declared.looks.Seen.{Seen}
 use Rattle.looks.specs.Surveys.{is_valid, is_blank_kind, or_foreign_kind, pends_in}
 
+-- ---- lists in arrays
+
+-- none yet
+abbrev pub none_of : {T : Type 0} {N : ℕ} → T → Counted T N
+none_of {T} {N} x = record { items = replicate N x; count = 0 }
+
+-- one more at the end
+abbrev pub one_more : {T : Type 0} {N : ℕ} → Counted T N → T → Counted T N
+one_more l x = record { items = set l.items l.count x; count = suc l.count }
+
 -- ---- blocks to erase
 
+abbrev pub Erases : Type 0
+Erases = Counted ℕ max_blocks
+
 abbrev pub erases_of : List ℕ → Erases
-erases_of ks = record { wipe = wipe_array ks; count = length ks }
+erases_of ks = record { items = wipe_array ks; count = length ks }
 
 -- one more at the end, if it is due
 abbrev pub noted : Erases → ℕ → Bool → Erases
-noted l k true = record { wipe = set l.wipe l.count k; count = suc l.count }
+noted l k true = one_more l k
 noted l k false = l
 
 -- block numbers but the current one and those that are skipped: K14, "every other that isn't blank, by number", "all in number order, but .."
@@ -40,7 +52,6 @@ some_of (e ∷ es) = true
 abbrev pub kept_of : Store → Bool → Newest
 kept_of x same =
     record {
-      valid = true;
       number = x.number;
       time = time_of x;
       end = end_of x.journal;
@@ -50,13 +61,14 @@ kept_of x same =
       edition = edition_number x.journal.edition;
     }
 
--- of the valid block with the largest time; zeros if none is valid
-abbrev pub newest_in : List Store → Newest
-newest_in [] = record { valid = false; number = 0; time = 0; end = 0; torn = 0; pends = false; shared = false; edition = 0 }
-newest_in (y ∷ ys) = kept_of (newest y ys) (tied (time_of (newest y ys)) (y ∷ ys))
+-- of the valid block with the largest time, if one is valid
+abbrev pub newest_in : List Store → Option Newest
+newest_in [] = None
+newest_in (y ∷ ys) = Some (kept_of (newest y ys) (tied (time_of (newest y ys)) (y ∷ ys)))
 
-abbrev pub tie_in : List Store → Tie
-tie_in xs = record { equal = equal_times xs; lowest = lowest_tied xs }
+-- the lowest block whose time another one has, if two have one time
+abbrev pub tie_in : List Store → Option ℕ
+tie_in xs = cond (equal_times xs) (Some (lowest_tied xs)) None
 
 -- where the values of a valid block stand
 abbrev pub store_places : Store → List ℕ
@@ -86,15 +98,19 @@ abbrev pub has_time : ℕ → List ℕ → Bool
 has_time t [] = false
 has_time t (x ∷ xs) = eqb t x || has_time t xs
 
--- a valid block no older than the newest so far: of several of one time the lowest counts
-abbrev pub takes_over : Newest → Survey → Bool
-takes_over w s = is_valid s.kind && leb w.time s.time
+-- a time is no earlier than that of the newest so far, if there is one
+abbrev pub no_older : Option Newest → ℕ → Bool
+no_older None t = true
+no_older (Some w) t = leb w.time t
 
-unfoldable pub newer : Newest → ℕ → Survey → Bool → Newest
+-- a valid block no older than the newest so far: of several of one time the lowest counts
+abbrev pub takes_over : Option Newest → Survey → Bool
+takes_over w s = is_valid s.kind && no_older w s.time
+
+unfoldable pub newer : Option Newest → ℕ → Survey → Bool → Option Newest
 newer w k s same =
     cond (takes_over w s)
-    (record {
-      valid = true;
+    (Some (record {
       number = k;
       time = s.time;
       end = s.end;
@@ -102,11 +118,11 @@ newer w k s same =
       pends = pends_in s;
       shared = same;
       edition = edition_number s.edition;
-    })
+    }))
     w
 
-unfoldable pub tying : Tie → ℕ → Bool → Tie
-tying q k same = cond same (record { equal = true; lowest = k }) q
+unfoldable pub tying : Option ℕ → ℕ → Bool → Option ℕ
+tying q k same = cond same (Some k) q
 
 -- a valid block whose time a block above it has
 abbrev pub same_above : ℕ → Survey → List ℕ → Bool

@@ -1,5 +1,5 @@
 -- What a survey tells of a block. proofs/ ties it to board's definitions.
-use Rattle.std.specs.Prelude.{List, Bool, true, false, ◌&&◌, cond, ℕ, ◌+◌, eqb, ltb, get_or}
+use Rattle.std.specs.Prelude.{List, Bool, true, false, ◌&&◌, cond, ℕ, ◌+◌, eqb, ltb, get_or, Result, Ok, Err}
 use Rattle.survey.specs.declared.BlockKind.{BlockKind}
 use Rattle.survey.specs.declared.BlockKind.TheVariants as kind
 use Rattle.survey.specs.declared.Survey.{Survey}
@@ -38,3 +38,7 @@ pends_in s = ltb 0 (sum_of s.pending)
 -- the creation time of the block that is made; 0 for none, also where there is no later time
 abbrev pub time_for : Bool → ℕ → ℕ
 time_for moves time = cond (moves && eqb time last_time) 0 (new_time moves time)
+
+-- the same where there may be no later time
+abbrev pub next_time : Bool → ℕ → Result ℕ Refusal
+next_time moves time = cond (moves && eqb time last_time) (Err refusal.Worn) (Ok (new_time moves time))

@@ -1,34 +1,72 @@
 // The image: which lengths are allowed, and its blocks.
-ghost use Rattle.std.specs.Prelude.{◌≡◌};
+ghost use Rattle.std.specs.Prelude.{◌≡◌, true, ℕ, ◌-◌, ◌<◌, length, get_or};
+ghost use Rattle.flash.specs.Flash.{block, size_of};
 ghost use Rattle.board.specs.Record.{allowed};
 ghost use Rattle.board.specs.Mount.{next_block};
+
+use wire::Refusal;
+
+// The bytes of an image whose length is allowed, and how many blocks they are.
+#[derive(Clone, Copy)]
+pub struct Image<'a> {
+    pub bytes: &'a [u8],
+    pub blocks: u8,
+    ghost is_allowed: { allowed blocks (length bytes.now) ≡ true },
+    ghost are_bytes: { (i : ℕ) → get_or bytes.now i 0 < 256 },
+}
+
+impl<'a> Image<'a> {
+    ghost use Rattle.looks.specs.Images.{Opens};
+
+    // The one place that refuses a length.
+    pub fn try_new(bytes: &'a [u8], blocks: u8) -> Result<Image<'a>, Refusal>
+        ensures { Opens bytes.now blocks result }
+    {
+        if is_allowed(blocks, bytes.len()) {
+            Ok(Image { bytes, blocks })
+        } else {
+            Err(Refusal::ImageLength)
+        }
+    }
+
+    // The size of each block.
+    pub fn size(&self) -> usize
+        ensures { result ≡ size_of self.now.blocks self.now.bytes.now }
+    {
+        flash::size_of(self.blocks, self.bytes.len())
+    }
+
+    pub fn block(&self, number: u8) -> &'a [u8]
+        ensures { result.now ≡ block (size_of self.now.blocks self.now.bytes.now) number self.now.bytes.now }
+    {
+        flash::block_of(self.bytes, self.size(), number)
+    }
+
+    // Its length less one, as a record holds it.
+    pub fn last(&self) -> u16
+        ensures { result ≡ length self.now.bytes.now - 1 }
+    {
+        (self.bytes.len() - 1) as u16
+    }
+}
 
 pub fn is_allowed(blocks: u8, len: usize) -> bool
     ensures { result ≡ allowed blocks len }
 {
-    if !job::is_count(blocks) {
-        return false;
-    }
-    if 65536 < len {
-        return false;
-    }
     let size = flash::size_of(blocks, len);
-    if blocks as usize * size != len {
-        return false;
-    }
-    if size % 128 != 0 {
-        return false;
-    }
-    256 <= size
+    job::is_count(blocks)
+        && len <= 65536
+        && usize::from(blocks) * size == len
+        && size % 128 == 0
+        && 256 <= size
 }
 
 // The block that a transfer goes to.
 pub fn next_block(blocks: u8, number: u8) -> u8
     ensures { result ≡ next_block blocks number }
 {
-    if blocks <= number {
-        return 0;
+    match number.checked_add(1) {
+        Some(next) if next < blocks => next,
+        _ => 0,
     }
-    let next = number + 1;
-    if next < blocks { next } else { 0 }
 }

@@ -6,4 +6,4 @@ pub mod lists;
 mod looks;
 pub mod surveys;
 
-pub use looks::{Newest, Seen, Tie, look};
+pub use looks::{Newest, Seen, look};

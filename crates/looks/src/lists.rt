@@ -1,49 +1,39 @@
-// Lists of blocks to erase, as a record holds them.
-ghost use Rattle.std.specs.Prelude.{◌≡◌, [], true, not, ◌||◌, ◌≤◌, ◌<◌, eqb};
+// Lists in a record's arrays, and the list of blocks to erase.
+ghost use Rattle.std.specs.Prelude.{◌≡◌, ◌≤◌, ◌<◌};
 ghost use Rattle.flash.specs.Flash.{max_blocks, block_numbers};
-ghost use Rattle.looks.specs.Seen.{erases_of, noted, others_in};
+ghost use Rattle.looks.specs.Seen.{none_of, one_more, erases_of, others_in};
 
 use flash::MAX_BLOCKS;
 
+// An array that is filled from its front, and how much of it is. A record's job, which C lays out, has both.
 #[derive(Clone, Copy)]
-pub struct Erases {
-    pub wipe: [u8; MAX_BLOCKS],
+pub struct Counted<T, const N: usize> {
+    pub items: [T; N],
     pub count: u8,
 }
 
-fn none() -> Erases
-    ensures { result ≡ erases_of [] }
-{
-    Erases {
-        wipe: [0; MAX_BLOCKS],
-        count: 0,
-    }
-}
+// Blocks to erase, in order.
+pub type Erases = Counted<u8, MAX_BLOCKS>;
 
-// One block more at the end, if it is due.
-pub fn note(list: Erases, number: u8, due: bool) -> Erases
-    requires { due ≡ true → list.count < max_blocks }
-    ensures { result ≡ noted list number due }
-{
-    if !due {
-        return list;
+impl<T: Copy, const N: usize> Counted<T, N> {
+    pub fn new(filler: T) -> Counted<T, N>
+        ensures { result ≡ none_of filler }
+    {
+        Counted {
+            items: [filler; N],
+            count: 0,
+        }
     }
-    let mut wipe = list.wipe;
-    let count = list.count;
-    wipe[count as usize] = number;
-    Erases {
-        wipe: wipe,
-        count: count + 1,
-    }
-}
 
-fn is_due(current: u8, number: u8, skipped: bool) -> bool
-    ensures { result ≡ not (eqb current number || skipped) }
-{
-    if current == number {
-        return false;
+    // One more at the end.
+    pub fn push(&mut self, item: T)
+        requires room { self.old.count < N }
+        requires few { N ≤ 255 }
+        ensures { self.new ≡ one_more self.old item }
+    {
+        self.items[usize::from(self.count)] = item;
+        self.count += 1;
     }
-    !skipped
 }
 
 // All blocks in number order, but the current one and those that are skipped.
@@ -51,11 +41,11 @@ pub fn others(blocks: u8, current: u8, skips: [bool; MAX_BLOCKS]) -> Erases
     requires { blocks ≤ max_blocks }
     ensures { result ≡ erases_of (others_in current skips (block_numbers blocks)) }
 {
-    let mut list = none();
-    let mut k: u8 = 0;
-    while k < blocks {
-        list = note(list, k, is_due(current, k, skips[k as usize]));
-        k = k + 1;
+    let mut list = Erases::new(0);
+    for k in 0..blocks {
+        if k != current && !skips[usize::from(k)] {
+            list.push(k);
+        }
     }
     list
 }

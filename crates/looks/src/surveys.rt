@@ -1,48 +1,47 @@
 // What a survey tells.
 ghost use Rattle.std.specs.Prelude.{◌≡◌, ◌&&◌, ◌≤◌, eqb};
 ghost use Rattle.journal.specs.Block.{last_time};
-ghost use Rattle.looks.specs.Surveys.{is_valid, sum_of, time_for};
+ghost use Rattle.looks.specs.Surveys.{is_valid, sum_of, time_for, next_time};
 
 use job::records::LAST_TIME;
 use survey::BlockKind;
+use wire::Refusal;
 
 pub fn is_valid(kind: BlockKind) -> bool
     ensures { result ≡ is_valid kind }
 {
-    match kind {
-        BlockKind::Blank => false,
-        BlockKind::InProgress => false,
-        BlockKind::Valid => true,
-        BlockKind::Foreign(_) => false,
-    }
+    matches!(kind, BlockKind::Valid)
 }
 
 // All hosts' pending bytes.
 pub fn sum(p: [u16; 4]) -> usize
     ensures { (result ≡ sum_of p) × (result ≤ 262140) }
 {
-    p[0] as usize + p[1] as usize + p[2] as usize + p[3] as usize
+    let [a, b, c, d] = p;
+    usize::from(a) + usize::from(b) + usize::from(c) + usize::from(d)
 }
 
 // A transfer is needed, and there is no later time.
 pub fn is_worn(moves: bool, time: u32) -> bool
     ensures { result ≡ (moves && eqb time last_time) }
 {
-    if moves {
-        return time == LAST_TIME;
-    }
-    false
+    moves && time == LAST_TIME
 }
 
 // The creation time of the block that is made; 0 for none, also where there is no later time.
 pub fn new_time(moves: bool, time: u32) -> u32
     ensures { result ≡ time_for moves time }
 {
-    if is_worn(moves, time) {
-        return 0;
-    }
+    next_time(moves, time).unwrap_or(0)
+}
+
+// The creation time of the block that is made, 0 for none; or there is no later one.
+pub fn next_time(moves: bool, time: u32) -> Result<u32, Refusal>
+    ensures { result ≡ next_time moves time }
+{
     if moves {
-        return time + 1;
+        time.checked_add(1).ok_or(Refusal::Worn)
+    } else {
+        Ok(0)
     }
-    0
 }

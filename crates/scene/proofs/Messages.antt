@@ -1,20 +1,20 @@
 -- A put's message, cut from a buffer.
-use mathlib.Core.Path.{◌≡◌, refl, ap}
+use mathlib.Core.Path.{◌≡◌, ap}
 use mathlib.Core.List.{List, [], ◌∷◌}
-use Prim.Native.Nat.{ℕ, zero, suc, ◌+◌, ◌≤◌}
+use Prim.Native.Nat.{ℕ, suc, ◌+◌, ◌≤◌, ◌<◌, ◌%◌, ◌/◌}
 use native.Mathlib.Omega.{arith}
 use lib.ListN.{take, replicate}
+use Rattle.std.proofs.lemmas.List.{take-replicate}
 use Rattle.wire.specs.Code.{overlay}
+use Rattle.scene.specs.Runs.{put_message}
 
-take-replicate : (n m v : ℕ) → n ≤ m → take n (replicate m v) ≡ replicate n v
-take-replicate zero m v l = refl
-take-replicate (suc n) zero v l = absurd (omega arith)
-take-replicate (suc n) (suc m) v l = ap (λ (x : List ℕ). v ∷ x) (take-replicate n m v (omega arith))
-
--- six bytes laid over a buffer of one value, and so many after them
-pub cut-message : (n v a b c d e f : ℕ) (l : List ℕ) → n ≤ 255 → l ≡ overlay (a ∷ b ∷ c ∷ d ∷ e ∷ f ∷ []) (replicate 261 v)
-    → take (6 + n) l ≡ a ∷ b ∷ c ∷ d ∷ e ∷ f ∷ replicate n v
+-- the length and the id, low byte first, laid over a buffer of one value, and so many bytes after them
+pub cut-message : (id v n k size : ℕ) (l : List ℕ) → id < 65536 → n ≤ 255 → k ≡ n → size ≡ 6 + k
+    → l ≡ overlay ((6 + k) % 256 ∷ (6 + k) / 256 % 256 ∷ 1 ∷ 1 ∷ id % 256 ∷ id / 256 % 256 ∷ []) (replicate 261 v)
+    → take size l ≡ put_message id v n
 unfolding overlay
-cut-message n v a b c d e f l h e' =
-    let k : 6 + n ≡ suc (suc (suc (suc (suc (suc n))))) = omega arith in
-    rw (e', k) (ap (λ (x : List ℕ). a ∷ b ∷ c ∷ d ∷ e ∷ f ∷ x) (take-replicate n 255 v h))
+cut-message id v n k size l i h e f g =
+    let high : (6 + k) / 256 % 256 ≡ (6 + n) / 256 = omega arith in
+    let id_high : id / 256 % 256 ≡ id / 256 = omega arith in
+    let s : size ≡ suc (suc (suc (suc (suc (suc n))))) = omega arith in
+    rw (g, high, id_high, s, e) (ap (λ (x : List ℕ). (6 + n) % 256 ∷ (6 + n) / 256 ∷ 1 ∷ 1 ∷ id % 256 ∷ id / 256 ∷ x) (take-replicate n 255 v h))

@@ -9,8 +9,7 @@ use Rattle.flash.specs.Flash.{Write}
 use Rattle.flash.proofs.Cases.{on_test}
 use Rattle.journal.specs.Block.{changing}
 use Rattle.board.specs.Mount.{close_array}
-use Rattle.store.specs.declared.mends.Closes.{Closes}
-use Rattle.store.specs.Mends.{closes_of, noted}
+use Rattle.store.specs.Mends.{Closes, closes_of, noted}
 
 one_more : (ws : List Write) (w : Write) → length ws < 4 → set (close_array ws) (length ws) w.at ≡ close_array (ws ++ (w ∷ []))
 one_more [] w h = refl
@@ -20,7 +19,7 @@ one_more (a ∷ b ∷ c ∷ []) w h = refl
 one_more (a ∷ b ∷ c ∷ d ∷ ws) w h = absurd (omega arith)
 
 abbrev closes : List ℕ → ℕ → Closes
-closes a n = record { at = a; count = n }
+closes a n = record { items = a; count = n }
 
 more : (ws : List Write) (w : Write) → length ws < 4 → closes (set (close_array ws) (length ws) w.at) (suc (length ws)) ≡ closes_of (ws ++ (w ∷ []))
 more ws w h = ap₂ closes (one_more ws w h) (omega (arith, length-append ws (w ∷ [])))

@@ -2,11 +2,12 @@
 use mathlib.Core.Path.{◌≡◌, refl, sym, ap, ◌∙◌}
 use mathlib.Core.List.{List, [], ◌∷◌, append-nil}
 use mathlib.Core.Bool.{Bool, true, false, ◌&&◌, cond}
-use Prim.Native.Nat.{ℕ, ◌-◌, ◌≤◌, ◌<◌}
+use Prim.Native.Nat.{ℕ, ◌-◌, ◌<◌}
 use native.Mathlib.Omega.{arith}
 use lib.Dec.{eqb, ltb}
 use lib.ListN.{length}
 use borrow.Author.Tests.{lt-ltb, le-ltb}
+use Rattle.std.specs.Prelude.{Option, Some, None, Result, Ok, Err}
 use Rattle.flash.specs.Bytes.{Bytes}
 use Rattle.flash.specs.Flash.{block_numbers, block, size_of}
 use Rattle.flash.proofs.Cases.{on_test}
@@ -24,37 +25,25 @@ use Rattle.board.specs.declared.Cursor.{Cursor}
 use Rattle.board.specs.declared.Rest.{Rest}
 use Rattle.board.specs.Record.{allowed, no_places, zero_each, no_closes, no_frame, buffer, unmounted, rest, starting, busy_with, Out, refuse}
 use Rattle.board.specs.Step.{first, begin}
-use Rattle.board.specs.Mount.{next_block, Found, all_found, Store, stores, equal_times, newest, tied, wipe_list, Upkeep, upkeep, transfers, none_valid, lowest_tied}
+use Rattle.board.specs.Mount.{next_block, new_time, Found, all_found, Store, stores, equal_times, newest, tied, wipe_list, Upkeep, upkeep, transfers, none_valid, lowest_tied}
 use Rattle.board.specs.Mount.{time_of, appends_for, tied_times, mount_at, mount_stores, mount_on, numbers_but, order_for, format_order, format_on}
-use Rattle.board.proofs.Images.{Sized, sized_of, sized-block}
 use Rattle.board.proofs.Found.{Among, newest-among, among_holds}
 use Rattle.board.proofs.Outcomes.{mount-stores, format-begins}
-use Rattle.job.specs.declared.Outcome.{Outcome}
 use Rattle.job.specs.declared.records.Numbers.{Numbers}
 use Rattle.job.specs.declared.records.Stepped.{Stepped}
 use Rattle.job.specs.Code.{assemble, going, over, leaves, leaves_if, go_append, go_close, go_open, go_wipe, begins}
-use Rattle.job.proofs.Entering.{when_true, when_false, wipe_leaves}
-use Rattle.looks.specs.declared.lists.Erases.{Erases}
+use Rattle.job.proofs.Entering.{wipe_leaves}
 use Rattle.looks.specs.declared.looks.Newest.{Newest}
-use Rattle.looks.specs.declared.looks.Tie.{Tie}
 use Rattle.looks.specs.declared.looks.Seen.{Seen}
 use Rattle.store.specs.declared.mends.Mend.{Mend}
-use Rattle.store.specs.Calls.{made, ends, places_after, Gives, refused}
+use Rattle.store.specs.Calls.{ends, places_after, Gives, or_refused, refused}
 use Rattle.store.specs.Mends.{mend_in, reset_in}
-use Rattle.looks.specs.Seen.{erases_of, others_in, newest_in, tie_in, store_places, places_for, Sees}
-use Rattle.store.specs.Mounts.{mount_plan, mount_in, mount_taken, mount_seen, last_erased, order_by}
+use Rattle.looks.specs.Surveys.{next_time}
+use Rattle.looks.specs.Seen.{Erases, erases_of, others_in, kept_of, newest_in, tie_in, store_places, places_for, Sees}
+use Rattle.store.specs.Mounts.{mount_plan, mount_in, mount_taken, unless_tied, mount_kept, mount_seen, Comes, last_erased, order_by}
 use Rattle.looks.proofs.Looked.{state_at, Held, NewestHeld, newest_held}
 use Rattle.store.proofs.Ordering.{but-none}
 use Rattle.store.proofs.Mending.{stands_is, laid-is, mend_is}
-
--- its length less one fits the record
-pub last_fits : (N : ℕ) (img : List ℕ) → allowed N (length img) ≡ true → (1 ≤ length img) × (length img ≤ 65536)
-last_fits N img a =
-    let z : Sized N (size_of N img) img = sized_of N img a in omega (arith, z.low, z.short, sized-block 0 z (omega (arith, z.few)))
-
--- the record put together
-pub made_is : {p f : List ℕ} {s : Stepped} {o : Out} {x : Outcome} → x ≡ made p f s → Gives p f s o → (x.answer ≡ o.answer) × (x.board ≡ o.board)
-made_is e g = (ap (λ (y : Outcome). y.answer) e ∙ g.answers, ap (λ (y : Outcome). y.board) e ∙ g.gives)
 
 -- a refusal, which leaves no places and no frame
 pub refusal_given : {img p f : List ℕ} {s : Stepped} {o : Out} (why : Refusal) → o ≡ refuse why img unmounted [] → s ≡ refused why
@@ -68,9 +57,15 @@ record Came (p f : List ℕ) (s : Stepped) (o : Out) : Type 0 where
   ended : s.ended ≡ ends s.answer
   lays : reset_in s.next.job ≡ cond s.ended no_frame f
 
-came_if : (p f : List ℕ) (t : Bool) {s u : Stepped} {o x : Out} → Came p f s o → Came p f u x → Came p f (cond t s u) (cond t o x)
-came_if p f true a b = a
-came_if p f false a b = b
+came_if : (p f : List ℕ) (t : Bool) (r u : Result Stepped Refusal) {o x : Out} → Came p f (or_refused r) o → Came p f (or_refused u) x
+    → Came p f (or_refused (cond t r u)) (cond t o x)
+came_if p f true r u a b = a
+came_if p f false r u a b = b
+
+came_tied : (p f : List ℕ) (t : Bool) (k : ℕ) (r : Result Stepped Refusal) {o x : Out} → Came p f (refused (tied_times k)) o
+    → Came p f (or_refused r) x → Came p f (or_refused (unless_tied (cond t (Some k) None) r)) (cond t o x)
+came_tied p f true k r a b = a
+came_tied p f false k r a b = b
 
 refusing : (img p f : List ℕ) (why : Refusal) → Came p f (refused why) (refuse why img unmounted [])
 refusing img p f why = record { answers = refl; gives = refl; ended = refl; lays = refl }
@@ -127,70 +122,85 @@ bare-gives s o x =
 -- ---- mount
 
 module _ (N : ℕ) (img p : List ℕ) where
-  -- a mount by what was kept of the blocks
-  abbrev kept : Newest → Tie → Refusal → (ℕ → List ℕ) → Stepped
-  kept w t why others =
-      cond w.valid (cond t.equal (refused (tied_times t.lowest)) (mount_taken N img w (others w.number))) (refused why)
-
   -- the frame to append to the newest of some blocks
   abbrev frame_for : List Store → List ℕ
   frame_for [] = no_frame
   frame_for (y ∷ ys) = let x : Store = newest y ys in buffer (appends_for (upkeep (size_of N img) x) x.journal)
 
   mount-with : (xs : List Found) (y : Store) (ys : List Store) → Held N img (newest y ys)
-      → Came (store_places (newest y ys)) (frame_for (y ∷ ys)) (mount_taken N img (newest_in (y ∷ ys)) (wipe_list (newest y ys).number xs))
+      → Came (store_places (newest y ys)) (frame_for (y ∷ ys)) (or_refused (mount_taken N img (kept_of (newest y ys) (tied (time_of (newest y ys)) (y ∷ ys))) (wipe_list (newest y ys).number xs)))
       (mount_at N img xs (newest y ys))
   unfolding mount_in mount_at
   mount-with xs y ys h =
       let x : Store = newest y ys in
       let u : Upkeep = upkeep (size_of N img) x in
       rw (mend_is x h.holds (tied (time_of x) (y ∷ ys)), h.long)
-      (came_if _ _ (transfers u && eqb (time_of x) last_time) (refusing img _ _ refusal.Worn)
+      (came_if _ _ (transfers u && eqb (time_of x) last_time) _ _ (refusing img _ _ refusal.Worn)
       (rw (stands_is u N (length img - 1) x.number (edition_number x.journal.edition) x.journal)
       (beginning img (store_places x) _ _ _ (laid-is u x.journal))))
 
   mounts_stores : (xs : List Found) (ys : List Store) (others : ℕ → List ℕ) → NewestHeld N img ys → ((c : ℕ) → others c ≡ wipe_list c xs)
-      → Came (places_for p ys) (frame_for ys) (kept (newest_in ys) (tie_in ys) (none_valid xs) others) (mount_stores N img xs ys)
+      → Came (places_for p ys) (frame_for ys) (or_refused (mount_kept N img (newest_in ys) (tie_in ys) (none_valid xs) others)) (mount_stores N img xs ys)
   mounts_stores xs [] others h e = refusing img p _ (none_valid xs)
   mounts_stores xs (y ∷ ys) others h e =
-      rw (e (newest y ys).number) (came_if _ _ (equal_times (y ∷ ys)) (refusing img _ _ (tied_times (lowest_tied (y ∷ ys)))) (mount-with xs y ys h))
+      rw (e (newest y ys).number) (came_tied _ _ (equal_times (y ∷ ys)) (lowest_tied (y ∷ ys)) _ (refusing img _ _ (tied_times (lowest_tied (y ∷ ys)))) (mount-with xs y ys h))
 
-  pub mount_is : {z : Seen} {q : List ℕ} → allowed N (length img) ≡ true → Bytes img → Sees N img p z q
-      → Gives (places_after (mount_seen N img z).answer q) (reset_in (mount_seen N img z).next.job) (mount_seen N img z) (mount_on N img)
+  pub mount_is : {z : Seen} {q : List ℕ} → allowed N (length img) ≡ true → Bytes img → Sees N img p z q → Comes q (mount_seen N img z) (mount_on N img)
   unfolding mount_seen
-  mount_is {z} {q} a b x = came_gives q (frame_for (stores (all_found N img))) (mount_seen N img z) (mount_on N img) (rw (mount-stores N img a, x.places) by)
+  mount_is {z} {q} a b x =
+      came_gives q (frame_for (stores (all_found N img))) (or_refused (mount_seen N img z)) (mount_on N img) (rw (mount-stores N img a, x.places) by)
     where
       ys : List Store
       ys = stores (all_found N img)
 
-      by : Came (places_for p ys) (frame_for ys) (mount_seen N img z) (mount_stores N img (all_found N img) ys)
+      by : Came (places_for p ys) (frame_for ys) (or_refused (mount_seen N img z)) (mount_stores N img (all_found N img) ys)
       by =
           let f : ℕ → List ℕ = λ c. others_in c z.blanks (block_numbers N) in
-          let e : mount_seen N img z ≡ kept (newest_in ys) (tie_in ys) (none_valid (all_found N img)) f =
-          ap (λ (w : Newest). kept w z.tie z.why f) x.newest
-          ∙ ap (λ (t : Tie). kept (newest_in ys) t z.why f) x.tie
-          ∙ ap (λ (n : Refusal). kept (newest_in ys) (tie_in ys) n f) x.why in
+          let e : mount_seen N img z ≡ mount_kept N img (newest_in ys) (tie_in ys) (none_valid (all_found N img)) f =
+          ap (λ (w : Option Newest). mount_kept N img w z.tie z.why f) x.newest
+          ∙ ap (λ (t : Option ℕ). mount_kept N img (newest_in ys) t z.why f) x.tie
+          ∙ ap (λ (n : Refusal). mount_kept N img (newest_in ys) (tie_in ys) n f) x.why in
           rw e (mounts_stores (all_found N img) ys f (newest_held N img a b) x.others)
 
--- the same by what its parts gave, where a block is taken
-pub taken_is : (N : ℕ) (img : List ℕ) (z : Seen) {es : Erases} {m : Mend} {b : List ℕ} {s : ℕ} → z.newest.valid ≡ true → z.tie.equal ≡ false
-    → es ≡ erases_of (others_in z.newest.number z.blanks (block_numbers N)) → m ≡ mend_in b z.newest → b ≡ block s z.newest.number img
-    → s ≡ size_of N img → mount_in N (length img - 1) z.newest es m ≡ mount_seen N img z
-unfolding mount_seen
-taken_is N img z v t e f g h = rw (e, f, g, h) (when_false z.tie.equal _ _ t ∙ when_true z.newest.valid _ _ v)
+-- the same by what its parts gave: where none is valid, where two have one time, and where a block is taken
+module _ (N : ℕ) (img : List ℕ) (z : Seen) where
+  pub none_is : z.newest ≡ None → Err z.why ≡ mount_seen N img z
+  unfolding mount_seen
+  none_is e = rw e
 
--- b is what the test for the last time gave
-module _ (N l : ℕ) (w : Newest) (es : Erases) (m : Mend) (b : Bool) (e : b ≡ (m.moves && eqb w.time last_time)) where
-  abbrev begun : Stepped
-  begun = begins (rest N l w.number m.end w.edition) (mount_plan N w es m) (starting 0 w.end)
+  pub tie_is : {w : Newest} (k : ℕ) → z.newest ≡ Some w → z.tie ≡ Some k → Err (tied_times k) ≡ mount_seen N img z
+  unfolding mount_seen
+  tie_is k e t = rw (e, t)
 
-  pub mount_worn : b ≡ true → refused refusal.Worn ≡ mount_in N l w es m
+  pub taken_is : {w : Newest} {es : Erases} {m : Mend} {b : List ℕ} → z.newest ≡ Some w → z.tie ≡ None
+      → es ≡ erases_of (others_in w.number z.blanks (block_numbers N)) → m ≡ mend_in b w → b ≡ block (size_of N img) w.number img
+      → mount_in N (length img - 1) w es m ≡ mount_seen N img z
+  unfolding mount_seen
+  taken_is v t e f g = rw (v, t, e, f, g)
+
+worn_of : (b : Bool) (n : ℕ) (s : Stepped) (e : Refusal) → cond b (Err refusal.Worn) (Ok n) ≡ Err e → Err e ≡ cond b (Err refusal.Worn) (Ok s)
+worn_of true n s e h = cc
+worn_of false n s e h = absurd (cc)
+
+begun_of : (b : Bool) (n t : ℕ) (f : ℕ → Stepped) → cond b (Err refusal.Worn) (Ok n) ≡ Ok t → Ok (f t) ≡ cond b (Err refusal.Worn) (Ok (f n))
+begun_of true n t f h = absurd (cc)
+begun_of false n t f h = let e : n ≡ t = cc in ap (λ (k : ℕ). Ok (f k)) (sym e)
+
+-- a block is made, unless there is no later time
+module _ (N l : ℕ) (w : Newest) (es : Erases) (m : Mend) where
+  abbrev plan_at : ℕ → Job
+  plan_at t = record (mount_plan N w es m) { time = t }
+
+  abbrev begun : ℕ → Stepped
+  begun t = begins (rest N l w.number m.end w.edition) (plan_at t) (starting 0 w.end)
+
+  pub mount_worn : (e : Refusal) → next_time m.moves w.time ≡ Err e → Err e ≡ mount_in N l w es m
   unfolding mount_in
-  mount_worn t = when_true (m.moves && eqb w.time last_time) (refused refusal.Worn) begun (sym e ∙ t)
+  mount_worn e h = worn_of (m.moves && eqb w.time last_time) (new_time m.moves w.time) (begun (new_time m.moves w.time)) e h
 
-  pub mount_begun : b ≡ false → begun ≡ mount_in N l w es m
+  pub mount_begun : (t : ℕ) → next_time m.moves w.time ≡ Ok t → Ok (begun t) ≡ mount_in N l w es m
   unfolding mount_in
-  mount_begun t = when_false (m.moves && eqb w.time last_time) (refused refusal.Worn) begun (sym e ∙ t)
+  mount_begun t h = begun_of (m.moves && eqb w.time last_time) (new_time m.moves w.time) t begun h
 
 -- ---- format
 
@@ -208,13 +218,13 @@ pub order_is : {N : ℕ} {img p : List ℕ} {z : Seen} {q : List ℕ} → Sees N
 unfolding format_order
 order_is {N} {img} {p} {z} x =
     order-stores N (stores (all_found N img)) (λ s i. omega (arith, (among_holds (state_at N img) 0 N s i).below))
-    ∙ sym (ap (λ (w : Newest). order_by N (last_erased N w)) x.newest)
+    ∙ sym (ap (λ (w : Option Newest). order_by N (last_erased N w)) x.newest)
 
 abbrev format_from : ℕ → List ℕ → Erases → Stepped
 format_from N img es =
     begins (rest N (length img - 1) (next_block N 0) 16 1)
     (record {
-      wipe = es.wipe;
+      wipe = es.items;
       wipes = es.count;
       moves = true;
       drops = false;

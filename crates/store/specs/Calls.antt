@@ -1,5 +1,5 @@
 -- What a call came to. proofs/ ties it to board's definitions.
-use Rattle.std.specs.Prelude.{◌≡◌, List, Bool, true, false, ℕ}
+use Rattle.std.specs.Prelude.{◌≡◌, List, Bool, true, false, ℕ, Result, Ok, Err}
 use Rattle.wire.specs.declared.Answer.{Answer}
 use Rattle.wire.specs.declared.Answer.TheVariants.{Done, More, Refused}
 use Rattle.wire.specs.declared.Refusal.{Refusal}
@@ -34,3 +34,8 @@ pub record Gives (places frame : List ℕ) (s : Stepped) (o : Out) : Type 0 wher
 -- a refusal: the record is unmounted
 abbrev pub refused : Refusal → Stepped
 refused n = at_rest_of (Refused n) Unmounted unmounted.rest
+
+-- what a mount or format came to, also where it is refused
+abbrev pub or_refused : Result Stepped Refusal → Stepped
+or_refused (Ok s) = s
+or_refused (Err n) = refused n

@@ -1,24 +1,27 @@
 -- What a mount does with the block that is taken, by what a look kept of it. proofs/ ties it to board's definitions.
-use Rattle.std.specs.Prelude.{List, [], Bool, true, false, ◌&&◌, cond, ℕ, suc, ◌+◌, eqb, ltb, length, get_or, set}
+use Rattle.std.specs.Prelude.{List, [], Bool, true, false, ◌&&◌, cond, ℕ, ◌+◌, eqb, ltb, length, get_or}
 use Rattle.flash.specs.Flash.{Write}
 use Rattle.frame.specs.Frame.{reset, encode, reset_len, edition_by, buffer}
 use Rattle.journal.specs.Block.{closing, changing}
 use Rattle.board.specs.declared.Job.{Job}
 use Rattle.board.specs.Record.{no_frame}
 use Rattle.board.specs.Mount.{close_array}
+use Rattle.looks.specs.declared.lists.Counted.{Counted}
 use Rattle.looks.specs.declared.looks.Newest.{Newest}
-use Rattle.store.specs.declared.mends.Closes.{Closes}
+use Rattle.looks.specs.Seen.{one_more}
 use Rattle.store.specs.declared.mends.Mend.{Mend}
 
 -- ---- the bytes that close a torn frame
 
+abbrev pub Closes : Type 0
+Closes = Counted ℕ 4
+
 abbrev pub closes_of : List Write → Closes
-closes_of ws = record { at = close_array ws; count = length ws }
+closes_of ws = record { items = close_array ws; count = length ws }
 
 -- one more at the end, if block b has another byte there
 abbrev pub noted : List ℕ → Closes → Write → Closes
-noted b l w =
-    cond (eqb (get_or b w.at 0) w.byte) l (record { at = set l.at l.count w.at; count = suc l.count })
+noted b l w = cond (eqb (get_or b w.at 0) w.byte) l (one_more l w.at)
 
 -- of a torn frame of n bytes at an offset; 0 for none
 abbrev pub torn_writes : List ℕ → ℕ → ℕ → List Write

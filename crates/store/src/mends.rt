@@ -1,21 +1,18 @@
 // What a mount does with the block that is taken: a torn frame closed and a reset appended, or a transfer.
-ghost use Rattle.std.specs.Prelude.{◌≡◌, [], suc, ◌+◌, ◌≤◌, ◌<◌};
+ghost use Rattle.std.specs.Prelude.{◌≡◌, suc, ◌+◌, ◌≤◌, ◌<◌};
 ghost use Rattle.flash.specs.Flash.{write};
 ghost use Rattle.frame.specs.Frame.{reset_len, edition_by};
 ghost use Rattle.journal.specs.Block.{block_max};
 ghost use Rattle.store.specs.Mends.{noted, closes_of, torn_writes, moves_in, due_len, mend_in, reset_in};
 
+use board::Job;
 use frame::{BUFFER_LEN, Edition, FINISH, Head, RESET_LEN};
 use job::records;
-use job::records::Stepped;
 use looks::Newest;
+use looks::lists::Counted;
 
-// The bytes that close a torn frame, by their offsets in the block, and how many of them.
-#[derive(Clone, Copy)]
-pub struct Closes {
-    pub at: [u16; 4],
-    pub count: u8,
-}
+// The bytes that close a torn frame, by their offsets in the block.
+pub type Closes = Counted<u16, 4>;
 
 #[derive(Clone, Copy)]
 pub struct Mend {
@@ -28,29 +25,13 @@ pub struct Mend {
     pub size: u8,
 }
 
-fn none() -> Closes
-    ensures { result ≡ closes_of [] }
-{
-    Closes {
-        at: [0; 4],
-        count: 0,
-    }
-}
-
 // One byte more at the end, if it must change.
-fn note(list: Closes, block: &[u8], at: u16, byte: u8) -> Closes
-    requires { list.count < 4 }
-    ensures { (result ≡ noted block.now list (write at byte)) × (result.count ≤ suc list.count) }
+fn note(closes: &mut Closes, block: &[u8], at: u16, byte: u8)
+    requires { closes.old.count < 4 }
+    ensures { (closes.new ≡ noted block.now closes.old (write at byte)) × (closes.new.count ≤ suc closes.old.count) }
 {
-    if flash::byte_at(block, at as usize) == byte {
-        return list;
-    }
-    let mut offsets = list.at;
-    let count = list.count;
-    offsets[count as usize] = at;
-    Closes {
-        at: offsets,
-        count: count + 1,
+    if flash::byte_at(block, usize::from(at)) != byte {
+        closes.push(at);
     }
 }
 
@@ -59,13 +40,15 @@ fn closing(block: &[u8], end: u16, torn: u16) -> Closes
     requires { end + torn ≤ block_max }
     ensures { result ≡ closes_of (torn_writes block.now end torn) }
 {
+    let mut closes = Closes::new(0);
     if torn == 0 {
-        return none();
+        return closes;
     }
-    let a = note(none(), block, end + 1, 0);
-    let b = note(a, block, end + 2, 0);
-    let c = note(b, block, end + 3, 0);
-    note(c, block, end + (torn - 1), FINISH)
+    note(&mut closes, block, end + 1, 0);
+    note(&mut closes, block, end + 2, 0);
+    note(&mut closes, block, end + 3, 0);
+    note(&mut closes, block, end + torn - 1, FINISH);
+    closes
 }
 
 // The length of a reset, by its edition's number.
@@ -79,20 +62,14 @@ fn reset_len(edition: u8) -> u8
 fn moves(size: usize, w: Newest) -> bool
     ensures { result ≡ moves_in size w }
 {
-    if !w.pends {
-        return false;
-    }
-    size < w.end as usize + w.torn as usize + reset_len(w.edition) as usize
+    w.pends && size < usize::from(w.end) + usize::from(w.torn) + usize::from(reset_len(w.edition))
 }
 
 // A reset is due where something is pending.
 fn due_len(w: Newest) -> u8
     ensures { result ≡ due_len w }
 {
-    if w.pends {
-        return reset_len(w.edition);
-    }
-    0
+    if w.pends { reset_len(w.edition) } else { 0 }
 }
 
 pub fn mending(block: &[u8], w: Newest) -> Mend
@@ -103,7 +80,7 @@ pub fn mending(block: &[u8], w: Newest) -> Mend
         return Mend {
             moves: true,
             end: w.end,
-            closes: none(),
+            closes: Closes::new(0),
             size: 0,
         };
     }
@@ -116,14 +93,12 @@ pub fn mending(block: &[u8], w: Newest) -> Mend
 }
 
 // The frame to append: a reset, if the job has one.
-pub fn lay_reset(s: Stepped, frame: &mut [u8; BUFFER_LEN])
-    ensures { frame.new ≡ reset_in s.next.job }
+pub fn lay_reset(job: Job, frame: &mut [u8; BUFFER_LEN])
+    ensures { frame.new ≡ reset_in job }
 {
-    let next = s.next;
-    let job = next.job;
     if 0 < job.size {
         *frame = frame::encode_frame(Edition::from(job.edition), Head::Reset, b"");
-        return;
+    } else {
+        *frame = records::no_frame();
     }
-    *frame = records::no_frame();
 }

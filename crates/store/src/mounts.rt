@@ -1,12 +1,12 @@
 // Mount and format.
-ghost use Rattle.std.specs.Prelude.{◌≡◌, true, ◌+◌, ◌≤◌, length};
+ghost use Rattle.std.specs.Prelude.{◌≡◌, ◌+◌, ◌≤◌, length, IfSome};
 ghost use Rattle.flash.specs.Flash.{max_blocks};
 ghost use Rattle.journal.specs.Block.{block_max};
-ghost use Rattle.board.specs.Record.{allowed, no_places, no_frame, Out};
+ghost use Rattle.board.specs.Record.{no_places, no_frame, Out};
 ghost use Rattle.board.specs.Mount.{tied_times, mount_on, format_order, format_on};
 ghost use Rattle.looks.specs.Seen.{erases_of};
-ghost use Rattle.store.specs.Calls.{Gives, made, places_after, refused};
-ghost use Rattle.store.specs.Mounts.{mount_in, mount_seen, last_erased, order_by};
+ghost use Rattle.store.specs.Calls.{Gives, made, places_after, or_refused, refused};
+ghost use Rattle.store.specs.Mounts.{mount_in, mount_seen, Comes, last_erased, order_by};
 
 use crate::mends;
 use crate::mends::Mend;
@@ -16,6 +16,7 @@ use frame::{BUFFER_LEN, Fault, Field, ID_MAX};
 use job::records::Stepped;
 use job::{Outcome, records};
 use journal::TIME_AT;
+use looks::image::Image;
 use looks::lists::Erases;
 use looks::{Newest, Seen, image, lists, surveys};
 use wire::{Answer, Refusal};
@@ -38,11 +39,9 @@ fn refused(why: Refusal) -> Stepped
 fn made(s: Stepped, places: [u16; 256], frame: [u8; BUFFER_LEN]) -> Outcome
     ensures { result ≡ made places frame s }
 {
-    let answer = s.answer;
-    let next = s.next;
     Outcome {
-        answer: answer,
-        board: records::assemble(next, places, records::no_frame(), frame),
+        answer: s.answer,
+        board: records::assemble(s.next, places, records::no_frame(), frame),
     }
 }
 
@@ -52,71 +51,63 @@ fn made(s: Stepped, places: [u16; 256], frame: [u8; BUFFER_LEN]) -> Outcome
 fn tied_times(number: u8) -> Refusal
     ensures { result ≡ tied_times number }
 {
-    Refusal::Foreign(
-        number,
-        Fault {
-            field: Field::Created,
-            place: TIME_AT,
-        },
-    )
+    let fault = Fault {
+        field: Field::Created,
+        place: TIME_AT,
+    };
+    Refusal::Foreign(number, fault)
 }
 
 // The block that is taken, the blocks to erase, and what is done with the one.
-fn mount_at(blocks: u8, last: u16, w: Newest, list: Erases, m: Mend) -> Stepped
+fn mount_at(blocks: u8, last: u16, w: Newest, list: Erases, m: Mend) -> Result<Stepped, Refusal>
     ensures { result ≡ mount_in blocks last w list m }
 {
-    if surveys::is_worn(m.moves, w.time) {
-        return refused(Refusal::Worn);
-    }
-    let wipe = list.wipe;
-    let closes = m.closes;
-    let close = closes.at;
     let job = Job {
-        wipe: wipe,
+        wipe: list.items,
         wipes: list.count,
         moves: m.moves,
         drops: true,
         target: image::next_block(blocks, w.number),
-        time: surveys::new_time(m.moves, w.time),
-        since: [0; 4],
+        time: surveys::next_time(m.moves, w.time)?,
         size: m.size,
         edition: w.edition,
-        closes: closes.count,
-        close: close,
+        closes: m.closes.count,
+        close: m.closes.items,
+        ..records::no_job()
     };
     let rest = records::standing(blocks, last, w.number, m.end, w.edition);
-    records::begin(rest, job, records::starting(0, w.end))
+    Ok(records::begin(rest, job, records::starting(0, w.end)))
 }
 
 // The torn frame of the block that is taken lies in it.
-fn mount_seen(image: &[u8], blocks: u8, z: Seen) -> Stepped
-    requires { (allowed blocks (length image.now) ≡ true) × (z.newest.end + z.newest.torn ≤ block_max) }
-    ensures { result ≡ mount_seen blocks image.now z }
+fn mount_seen(image: &Image<'_>, z: Seen) -> Result<Stepped, Refusal>
+    requires { IfSome z.newest (λ w. w.end + w.torn ≤ block_max) }
+    ensures { result ≡ mount_seen image.now.blocks image.now.bytes.now z }
 {
-    let w = z.newest;
-    let tie = z.tie;
-    let why = z.why;
-    if !w.valid {
-        return refused(why);
+    let w = z.newest.ok_or(z.why)?;
+    if let Some(lowest) = z.tie {
+        return Err(tied_times(lowest));
     }
-    if tie.equal {
-        return refused(tied_times(tie.lowest));
-    }
-    let blanks = z.blanks;
-    let list = lists::others(blocks, w.number, blanks);
-    let size = flash::size_of(blocks, image.len());
-    let m = mends::mending(flash::block_of(image, size, w.number), w);
-    mount_at(blocks, (image.len() - 1) as u16, w, list, m)
+    let list = lists::others(image.blocks, w.number, z.blanks);
+    let m = mends::mending(image.block(w.number), w);
+    mount_at(image.blocks, image.last(), w, list, m)
+}
+
+// By one look at the blocks, which leaves the places of the block that is taken.
+fn mount_image(bytes: &[u8], blocks: u8, places: &mut [u16; 256]) -> Result<Stepped, Refusal>
+    ensures { Comes places.new result (mount_on blocks bytes.now) }
+{
+    let image = Image::try_new(bytes, blocks)?;
+    let seen = looks::look(&image, places);
+    mount_seen(&image, seen)
 }
 
 // A refused mount leaves no places.
 fn drop_places(answer: Answer, places: &mut [u16; 256])
     ensures { places.new ≡ places_after answer places.old }
 {
-    match answer {
-        Answer::Done => return,
-        Answer::More => return,
-        Answer::Refused(_) => *places = records::no_places(),
+    if let Answer::Refused(_) = answer {
+        *places = records::no_places();
     }
 }
 
@@ -129,16 +120,9 @@ pub fn mount_core(
 ) -> Stepped
     ensures { Gives places.new frame.new result (mount_on blocks image.now) }
 {
-    if !image::is_allowed(blocks, image.len()) {
-        *places = records::no_places();
-        *frame = records::no_frame();
-        return refused(Refusal::ImageLength);
-    }
-    let seen = looks::look(image, blocks, places);
-    let s = mount_seen(image, blocks, seen);
-    let answer = s.answer;
-    drop_places(answer, places);
-    mends::lay_reset(s, frame);
+    let s = mount_image(image, blocks, places).unwrap_or_else(refused);
+    drop_places(s.answer, places);
+    mends::lay_reset(s.next.job, frame);
     s
 }
 
@@ -154,16 +138,13 @@ pub fn mount(image: &[u8], blocks: u8) -> Outcome
 // ---- format
 
 // The current block; past the blocks if there is none.
-fn last_erased(blocks: u8, w: Newest) -> u8
-    ensures { result ≡ last_erased blocks w }
+fn last_erased(blocks: u8, newest: Option<Newest>) -> u8
+    ensures { result ≡ last_erased blocks newest }
 {
-    if !w.valid {
-        return blocks;
+    match newest {
+        Some(w) if !w.shared => w.number,
+        _ => blocks,
     }
-    if w.shared {
-        return blocks;
-    }
-    w.number
 }
 
 // All blocks in number order, but the one that comes last.
@@ -171,52 +152,53 @@ fn format_list(blocks: u8, last: u8) -> Erases
     requires { blocks ≤ max_blocks }
     ensures { result ≡ erases_of (order_by blocks last) }
 {
-    let list = lists::others(blocks, last, [false; MAX_BLOCKS]);
-    lists::note(list, last, last < blocks)
+    let mut list = lists::others(blocks, last, [false; MAX_BLOCKS]);
+    if last < blocks {
+        list.push(last);
+    }
+    list
 }
 
 // The places that a look gives are not kept.
-fn format_order(image: &[u8], blocks: u8) -> Erases
-    requires { allowed blocks (length image.now) ≡ true }
-    ensures { result ≡ erases_of (format_order blocks image.now) }
+fn format_order(image: &Image<'_>) -> Erases
+    ensures { result ≡ erases_of (format_order image.now.blocks image.now.bytes.now) }
 {
     let mut places = records::no_places();
-    let seen = looks::look(image, blocks, &mut places);
-    let w = seen.newest;
-    format_list(blocks, last_erased(blocks, w))
+    let seen = looks::look(image, &mut places);
+    format_list(image.blocks, last_erased(image.blocks, seen.newest))
+}
+
+// Every block erased, and the first one made.
+fn format_image(bytes: &[u8], blocks: u8) -> Result<Stepped, Refusal>
+    ensures { Gives no_places no_frame (or_refused result) (format_on blocks bytes.now) }
+{
+    let image = Image::try_new(bytes, blocks)?;
+    let order = format_order(&image);
+    let wipe = order.items;
+    let job = Job {
+        wipe,
+        wipes: order.count,
+        moves: true,
+        time: 1,
+        edition: FORMATS,
+        ..records::no_job()
+    };
+    let rest = records::standing(
+        image.blocks,
+        image.last(),
+        image::next_block(image.blocks, 0),
+        records::START,
+        FORMATS,
+    );
+    let cursor = records::starting(PAST_IDS, records::START);
+    Ok(records::begin(rest, job, cursor))
 }
 
 // A format, which leaves no places and appends no frame.
 pub fn format_core(image: &[u8], blocks: u8) -> Stepped
     ensures { Gives no_places no_frame result (format_on blocks image.now) }
 {
-    if !image::is_allowed(blocks, image.len()) {
-        return refused(Refusal::ImageLength);
-    }
-    let order = format_order(image, blocks);
-    let wipe = order.wipe;
-    let job = Job {
-        wipe: wipe,
-        wipes: order.count,
-        moves: true,
-        drops: false,
-        target: 0,
-        time: 1,
-        since: [0; 4],
-        size: 0,
-        edition: FORMATS,
-        closes: 0,
-        close: [0; 4],
-    };
-    let last = (image.len() - 1) as u16;
-    let rest = records::standing(
-        blocks,
-        last,
-        image::next_block(blocks, 0),
-        records::START,
-        FORMATS,
-    );
-    records::begin(rest, job, records::starting(PAST_IDS, records::START))
+    format_image(image, blocks).unwrap_or_else(refused)
 }
 
 pub fn format(image: &[u8], blocks: u8) -> Outcome

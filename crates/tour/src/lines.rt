@@ -1,154 +1,199 @@
 // A line of the script, taken apart.
-ghost use Rattle.std.specs.Prelude.{◌≤◌, ◌≡◌, length};
+ghost use Rattle.std.specs.Prelude.{◌≡◌, ◌==◌, ◌+◌, ◌<◌, [], length, take, drop, position, IfSome, MatchOption};
 
-// A line's last three numbers, d the last of them, and how many there are: NONE where one can't be read. Inside, a digit goes on.
+use arrayvec::ArrayVec;
+
+// A line that can't be read.
 #[derive(Clone, Copy)]
-pub struct Args {
-    pub b: usize,
-    pub c: usize,
-    pub d: usize,
-    pub count: usize,
-    pub inside: bool,
+pub struct Unread;
+
+// What a line asks for, with its numbers.
+#[derive(Clone, Copy)]
+pub enum Call {
+    Ask {
+        host: usize,
+    },
+    Board {
+        at: usize,
+    },
+    Cut {
+        host: usize,
+        most: usize,
+    },
+    Double {
+        at: usize,
+    },
+    Elsewhere,
+    Format {
+        most: usize,
+    },
+    Go,
+    Handed,
+    Image {
+        at: usize,
+    },
+    Judge {
+        slot: usize,
+    },
+    Keep {
+        slot: usize,
+    },
+    Log,
+    Mount,
+    New {
+        size: usize,
+        blocks: usize,
+    },
+    Objects,
+    Put {
+        host: usize,
+        id: usize,
+        count: usize,
+    },
+    Quantity {
+        blocks: usize,
+    },
+    Read,
+    Say,
+    Try,
+    Use {
+        slot: usize,
+    },
+    View {
+        from: usize,
+        to: usize,
+    },
+    With {
+        room: usize,
+    },
+    Zeros {
+        size: usize,
+        blocks: usize,
+        which: usize,
+    },
 }
 
-const NONE: usize = 9;
-
-// A message of at most 16 bytes, and how many hex digits it has: UNREAD where it can't be read.
-#[derive(Clone, Copy)]
-pub struct Bytes {
-    pub bytes: [u8; 16],
-    pub digits: usize,
+impl Call {
+    // A word goes by its first letter, and takes so many numbers.
+    pub fn new(word: u8, numbers: &[usize]) -> Result<Call, Unread> {
+        Ok(match (word, numbers) {
+            (b'a', [host]) => Call::Ask { host: *host },
+            (b'b', [at]) => Call::Board { at: *at },
+            (b'c', [host, most]) => Call::Cut {
+                host: *host,
+                most: *most,
+            },
+            (b'd', [at]) => Call::Double { at: *at },
+            (b'e', []) => Call::Elsewhere,
+            (b'f', [most]) => Call::Format { most: *most },
+            (b'g', []) => Call::Go,
+            (b'h', []) => Call::Handed,
+            (b'i', [at]) => Call::Image { at: *at },
+            (b'j', [slot]) => Call::Judge { slot: *slot },
+            (b'k', [slot]) => Call::Keep { slot: *slot },
+            (b'l', []) => Call::Log,
+            (b'm', []) => Call::Mount,
+            (b'n', [size, blocks]) => Call::New {
+                size: *size,
+                blocks: *blocks,
+            },
+            (b'o', []) => Call::Objects,
+            (b'p', [host, id, count]) => Call::Put {
+                host: *host,
+                id: *id,
+                count: *count,
+            },
+            (b'q', [blocks]) => Call::Quantity { blocks: *blocks },
+            (b'r', []) => Call::Read,
+            (b's', []) => Call::Say,
+            (b't', []) => Call::Try,
+            (b'u', [slot]) => Call::Use { slot: *slot },
+            (b'v', [from, to]) => Call::View {
+                from: *from,
+                to: *to,
+            },
+            (b'w', [room]) => Call::With { room: *room },
+            (b'z', [size, blocks, which]) => Call::Zeros {
+                size: *size,
+                blocks: *blocks,
+                which: *which,
+            },
+            _ => return Err(Unread),
+        })
+    }
 }
 
-const UNREAD: usize = 33;
-
-// Where a byte stands first from an index on, or the end.
-pub fn find(s: &[u8], from: usize, byte: u8) -> usize
-    requires { from ≤ length s.now }
-    ensures { (from ≤ result) × (result ≤ length s.now) }
+// Where a byte stands first.
+fn find(s: &[u8], byte: u8) -> Option<usize>
+    ensures place { result ≡ position (λ b. b == byte) s.now }
+    ensures within { IfSome result (λ at. at < length s.now) }
 {
-    let mut i = from;
-    while i < s.len() {
-        if s[i] == byte {
-            return i;
-        }
-        i += 1;
-    }
-    i
+    s.iter().position(|b| *b == byte)
 }
 
-// What stands after an index.
-pub fn after(s: &[u8], at: usize) -> &[u8] {
-    let n = s.len();
-    if at < n {
-        return &s[at + 1..];
-    }
-    &s[n..]
-}
-
-// How many numbers stand after a word, which goes by its first letter, a to z; 10 where there is no such word.
-const EXPECTED: [usize; 26] = [
-    1, 1, 2, 1, 0, 1, 0, 0, 1, 1, 1, 0, 0, 2, 0, 3, 1, 0, 0, 0, 1, 2, 1, 10, 10, 3,
-];
-
-pub fn expected(word: u8) -> usize {
-    if word < b'a' {
-        return 10;
-    }
-    if b'z' < word {
-        return 10;
-    }
-    EXPECTED[(word - b'a') as usize]
-}
-
-// The value of a hex digit, 16 for another byte.
-fn nibble(b: u8) -> u8 {
-    match b {
-        b'0'..=b'9' => b - b'0',
-        b'a'..=b'f' => b - 87,
-        _ => 16,
+// What stands before a byte's first place, and after it.
+pub fn cut(s: &[u8], byte: u8) -> (&[u8], &[u8])
+    ensures { MatchOption (position (λ b. b == byte) s.now) ((result.0.now ≡ s.now) × (result.1.now ≡ []))
+        (λ at. (result.0.now ≡ take at s.now) × (result.1.now ≡ drop (at + 1) s.now)) }
+{
+    match find(s, byte) {
+        Some(at) => (&s[..at], &s[at + 1..]),
+        None => (s, &[]),
     }
 }
 
 // ---- numbers
 
-// A byte more of a word and its numbers, which have at most 5 digits.
-fn pass(n: Args, b: u8) -> Args {
-    let mut m = n;
-    let v = nibble(b);
-    m.inside = v < 10;
-    if 9 < v {
-        if b != b' ' && n.count != 0 {
-            m.count = NONE;
+// A number of at most 5 digits, zeros before it aside.
+fn decimal(digits: &[u8]) -> Result<usize, Unread> {
+    let mut n = 0;
+    for b in digits {
+        if 9999 < n || !b.is_ascii_digit() {
+            return Err(Unread);
         }
-        return m;
+        n = 10 * n + usize::from(*b - b'0');
     }
-    if NONE <= n.count {
-        return m;
-    }
-    if !n.inside {
-        m.b = n.c;
-        m.c = n.d;
-        m.d = v as usize;
-        m.count = n.count + 1;
-        return m;
-    }
-    if 9999 < n.d {
-        m.count = NONE;
-        return m;
-    }
-    m.d = 10 * n.d + v as usize;
-    m
+    Ok(n)
 }
 
-pub fn numbers(s: &[u8]) -> Args {
-    let mut n = Args {
-        b: 0,
-        c: 0,
-        d: 0,
-        count: 0,
-        inside: false,
-    };
-    let mut i = 0;
-    while i < s.len() {
-        n = pass(n, s[i]);
-        i += 1;
+// The numbers after a word, at most three.
+pub fn numbers(s: &[u8]) -> Result<ArrayVec<usize, 3>, Unread> {
+    let mut numbers = ArrayVec::new();
+    let start = s.iter().position(|b| b.is_ascii_digit()).unwrap_or(s.len());
+    for digits in s[start..].split(|b| *b == b' ') {
+        if !digits.is_empty() {
+            numbers.try_push(decimal(digits)?).map_err(|_| Unread)?;
+        }
     }
-    n
+    Ok(numbers)
 }
 
 // ---- messages
 
-fn push(m: Bytes, b: u8) -> Bytes {
-    let mut p = m;
-    let v = nibble(b);
-    let at = m.digits / 2;
-    if b == b' ' {
-        return p;
+fn nibble(b: u8) -> Result<u8, Unread> {
+    match b {
+        b'0'..=b'9' => Ok(b - b'0'),
+        b'a'..=b'f' => Ok(b - b'a' + 10),
+        _ => Err(Unread),
     }
-    if 15 < v {
-        p.digits = UNREAD;
-        return p;
-    }
-    if 15 < at {
-        p.digits = UNREAD;
-        return p;
-    }
-    let high = p.bytes[at] % 16;
-    p.bytes[at] = 16 * high + v;
-    p.digits = m.digits + 1;
-    p
 }
 
-pub fn message(s: &[u8]) -> Bytes {
-    let mut m = Bytes {
-        bytes: [0; 16],
-        digits: 0,
-    };
-    let mut i = 0;
-    while i < s.len() {
-        m = push(m, s[i]);
-        i += 1;
+// A message in hex, two digits a byte, of at most 16 bytes.
+pub fn message(s: &[u8]) -> Result<ArrayVec<u8, 16>, Unread> {
+    let mut bytes = ArrayVec::new();
+    let mut high = None;
+    for b in s.iter().filter(|b| **b != b' ') {
+        let low = nibble(*b)?;
+        high = match high {
+            None => Some(low),
+            Some(high) => {
+                bytes.try_push(high << 4 | low).map_err(|_| Unread)?;
+                None
+            }
+        };
     }
-    m
+    if high.is_some() {
+        return Err(Unread);
+    }
+    Ok(bytes)
 }

@@ -1,9 +1,9 @@
 // What a call came to, and whether image, record and reply are as they were before it.
 use board::{Phase, Record};
-use check::same;
 use frame::Host;
 use lent::RECORD_SIZE;
-use scene::{Bench, front, hex, number, result, say, tell};
+use scene::{Bench, hex, number, say};
+use wire::Answer;
 
 pub fn title(text: &[u8]) {
     say(text);
@@ -12,7 +12,7 @@ pub fn title(text: &[u8]) {
 
 pub fn judge(what: &[u8], old: &[u8], new: &[u8]) {
     say(what);
-    if same(old, new) {
+    if old == new {
         say(b" same");
     } else {
         say(b" CHANGED");
@@ -21,8 +21,8 @@ pub fn judge(what: &[u8], old: &[u8], new: &[u8]) {
 
 // By the records' bytes, so that every field counts.
 pub fn records(old: Record, new: Record) {
-    let mut one = [0u8; RECORD_SIZE];
-    let mut two = [0u8; RECORD_SIZE];
+    let mut one = [0; RECORD_SIZE];
+    let mut two = [0; RECORD_SIZE];
     pack::encode(old, &mut one);
     pack::encode(new, &mut two);
     judge(b", record", &one, &two);
@@ -34,14 +34,9 @@ pub fn reply_kept(reply: [u8; 16]) {
 }
 
 pub fn compare(before: Bench, after: Bench) {
-    let old = before.image;
-    let new = after.image;
-    let from = before.board;
-    let to = after.board;
-    let reply = after.reply;
-    judge(b"; image", &old, &new);
-    records(from, to);
-    reply_kept(reply);
+    judge(b"; image", &before.image, &after.image);
+    records(before.board, after.board);
+    reply_kept(after.reply);
 }
 
 // The end of a line, with a comparison.
@@ -52,33 +47,29 @@ pub fn judged(before: Bench, after: Bench) {
 
 // A refusal, or another call that is done without a step, is compared with what was before.
 pub fn came(before: Bench, after: Bench, text: &[u8]) {
-    if 0 < after.steps {
-        return tell(text, after);
-    }
-    if after.answer == 255 {
-        return tell(text, after);
+    if 0 < after.steps || matches!(after.answer, Answer::More) {
+        return after.tell(text);
     }
     say(text);
-    result(after.answer, after.steps);
+    after.ran().result();
     judged(before, after);
 }
 
-pub fn answered(answer: u8) {
+pub fn answered(answer: Answer) {
     say(b": answer ");
-    number(answer as usize);
+    number(usize::from(wire::number(answer)));
 }
 
 pub fn unmounted(board: Record) {
-    let phase = board.phase;
-    match phase {
-        Phase::Unmounted => say(b", record unmounted\n"),
-        _ => say(b", record MOUNTED\n"),
+    if matches!(board.phase, Phase::Unmounted) {
+        say(b", record unmounted\n");
+    } else {
+        say(b", record MOUNTED\n");
     }
 }
 
 pub fn stretch(d: Bench, message: &[u8]) {
-    let image = d.image;
-    let found = queue::read(front(&image, d.size), d.blocks, d.board, Host(0), message);
+    let found = queue::read(d.as_image(), d.blocks, d.board, Host(0), message);
     say(b"; stretch [");
     hex(found);
     say(b" ] of length ");
@@ -87,8 +78,7 @@ pub fn stretch(d: Bench, message: &[u8]) {
 }
 
 pub fn reply_shown(d: Bench) {
-    let reply = d.reply;
     say(b"   reply:");
-    hex(&reply);
+    hex(&d.reply);
     say(b"\n");
 }

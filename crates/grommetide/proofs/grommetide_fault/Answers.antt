@@ -9,6 +9,6 @@ use Rattle.grommetide.proofs.grommetide_fault.Goals as goal
 pub returns : goal.returns
 unfolding edge_fault
 returns c =
-    let a = c.mount_core-mounted.ensures.answers in
+    let a = c.mount_core-answer.ensures.answers in
     ap₂ (λ (n : ℕ) (s : Spot). broken n s.half s.field s.place) (c.refused.ensures ∙ ap refused_number a)
     (c.spot_of-spot.ensures ∙ ap spot_of a)

@@ -2,20 +2,11 @@
 use mathlib.Core.Path.{ap, ◌∙◌}
 use borrow.Author.Tests.{eq-eqb, ne_eqb}
 use Rattle.edge.specs.Edge.{tells, edge_next}
-use borrow.Author.Rules.{rules}
 use Rattle.grommetide.proofs.next.grommetide_next.Goals as goal
 
 pub returns-then-board-ne-RECORD_SIZE : goal.returns-then-board-ne-RECORD_SIZE
 unfolding edge_next
 returns-then-board-ne-RECORD_SIZE c = rw (ne_eqb _ _ c.if-board-ne-RECORD_SIZE.true)
-
-pub next_in-requires : goal.next_in-requires
-unfolding edge_next
-next_in-requires c = search rules
-
-pub tell-t-requires : goal.tell-t-requires
-unfolding edge_next
-tell-t-requires c = search rules
 
 pub returns : goal.returns
 unfolding edge_next

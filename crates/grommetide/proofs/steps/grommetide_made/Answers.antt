@@ -6,50 +6,17 @@ use Rattle.lent.specs.Layout.{record_in}
 use Rattle.edge.specs.Edge.{edge_made}
 use Rattle.edge.proofs.Kept.{made_keeps}
 use Rattle.edge.proofs.Driven.{driven, middle-made}
-use borrow.Author.Rules.{rules}
 use Rattle.grommetide.proofs.steps.grommetide_made.Goals as goal
-
-pub try_made-requires : goal.try_made-requires
-unfolding edge_made
-try_made-requires c = search rules
-
-pub number-requires : goal.number-requires
-unfolding edge_made
-number-requires c = search rules
-
-pub shape_of-board-then-try_made : goal.shape_of-board-then-try_made
-unfolding edge_made
-shape_of-board-then-try_made c = search rules
 
 pub returns-then-try_made : goal.returns-then-try_made
 unfolding edge_made
 returns-then-try_made c = let z = middle-made c.args.blocks c.args.image.now c.args.board.now _ _ c.number.ensures
     ((c.try_made.ensures c.args.image.now refl).made c.if-try_made.true) in record { answered = z.0; back = z.1 }
 
-pub shape_of-board-then-board-ne-RECORD_SIZE : goal.shape_of-board-then-board-ne-RECORD_SIZE
-unfolding edge_made
-shape_of-board-then-board-ne-RECORD_SIZE c = search rules
-
 pub returns-then-board-ne-RECORD_SIZE : goal.returns-then-board-ne-RECORD_SIZE
 unfolding edge_made
 returns-then-board-ne-RECORD_SIZE c = let q = ((c.try_made.ensures c.args.image.now refl).left c.if-try_made.false).1 in let k = rw q at
     c.if-board-ne-RECORD_SIZE.true in let t = ne_eqb _ _ k in record { answered = (rw t, rw t q); back = λ l. absurd (k l) }
-
-pub numbers-n-requires : goal.numbers-n-requires
-unfolding edge_made
-numbers-n-requires c = search rules
-
-pub made_of-m-requires : goal.made_of-m-requires
-unfolding edge_made
-made_of-m-requires c = search rules
-
-pub go_on-requires : goal.go_on-requires
-unfolding edge_made
-go_on-requires c = search rules
-
-pub shape_of-board : goal.shape_of-board
-unfolding edge_made
-shape_of-board c = search rules
 
 pub returns : goal.returns
 unfolding edge_made

@@ -6,9 +6,3 @@ pub returns-then-try_byte : goal.returns-then-try_byte
 returns-then-try_byte c =
     let d = middle c.args.image.now c.args.board.now _ _ _ c.number.ensures (c.try_byte.ensures.made c.if-try_byte.true) in
     record { answered = (d.answer, d.image, d.board); back = d.back }
-
-pub returns : goal.returns
-returns c =
-    let e = c.try_byte.ensures.left c.if-try_byte.false in
-    let d = rw (e.0, e.1) at c.step_numbers.ensures in
-    record { answered = (d.answer, d.image, d.board); back = d.back }

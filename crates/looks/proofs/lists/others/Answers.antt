@@ -1,33 +1,28 @@
--- The blocks below k are passed.
-use mathlib.Core.Path.{ap}
+-- Block k, noted or passed over.
+use mathlib.Core.Path.{sym}
+use mathlib.Core.Bool.{true, false}
 use native.Mathlib.Omega.{arith}
 use native.Mathlib.Numerals.{add-one}
-use Rattle.looks.specs.declared.lists.Erases.{Erases}
-use Rattle.looks.proofs.Listing.{listed_none, listed_next, listed_all}
+use borrow.Author.Tests.{eq-eqb, ne_eqb}
+use Rattle.looks.proofs.Listing.{listed_next, listed_all}
+use Rattle.looks.proofs.lists.others.Goals.{then-k-current+then-not-skips-from, else-k-current, else-k-current-via-then-k-current+else-not-skips-from, else-k-current-via-else-k-current}
 use Rattle.looks.proofs.lists.others.Goals as goal
 
-pub loop-k-init : goal.loop-k-init
-loop-k-init c = (rw c.none-list.ensures (listed_none _ _ _), omega arith)
-
-pub bounds-skips-k : goal.bounds-skips-k
-bounds-skips-k c = omega (arith, c.requires)
-
-pub note-list-requires : goal.note-list-requires
-note-list-requires c =
-    λ e. omega (arith, c.requires, ap (λ (l : Erases). l.count) c.loop-k.invariant.0.is, c.loop-k.invariant.0.few)
-
-pub overflow_add-k : goal.overflow_add-k
-overflow_add-k c = omega (arith, c.requires)
-
-pub loop-k-smaller : goal.loop-k-smaller
-loop-k-smaller c = omega arith
-
 pub loop-k-preserved : goal.loop-k-preserved
-loop-k-preserved c = (
-  rw (c.note-list.ensures, c.is_due.ensures, add-one)
-      (listed_next _ _ _ c.loop-k.k c.loop-k.list c.loop-k-test.true (omega (arith, c.requires)) c.loop-k.invariant.0),
-  omega arith,
-)
+loop-k-preserved c =
+    let next = listed_next c.args.blocks c.args.current c.args.skips c.loop-k.k c.loop-k.list in
+    elim c.if-k-current.branch [
+      | then-k-current+then-not-skips-from w ↦
+          rw (w.list-is, w.push.ensures, add-one)
+          (next true (rw (ne_eqb _ _ (λ e. w.if-k-current.true (sym e)), sym w.from.ensures, w.if-not-skips-from.true)) c.loop-k-test.true (omega (arith, c.requires)) c.loop-k.invariant)
+      | else-k-current w ↦
+          rw (w.list-is, add-one) (elim w.else-k-current.branch [
+            | else-k-current-via-then-k-current+else-not-skips-from v ↦
+                next false (rw (ne_eqb _ _ (λ e. v.if-k-current.true (sym e)), sym v.from.ensures, v.if-not-skips-from.false)) c.loop-k-test.true (omega (arith, c.requires)) c.loop-k.invariant
+            | else-k-current-via-else-k-current v ↦
+                next false (rw (eq-eqb _ _ (sym v.if-k-current.false))) c.loop-k-test.true (omega (arith, c.requires)) c.loop-k.invariant
+          ])
+    ]
 
 pub returns : goal.returns
-returns c = listed_all _ _ _ c.loop-k.k _ c.loop-k-test.false c.loop-k.invariant.0
+returns c = listed_all _ _ _ c.loop-k.k _ c.loop-k-test.false c.loop-k.invariant

@@ -4,7 +4,4 @@ use Rattle.looks.proofs.Looked.{Looked}
 use Rattle.looks.proofs.looks.look.Given as goal
 
 abbrev pub invariant-loop-k : goal.invariant-loop-k
-invariant-loop-k l = Looked l.blocks l.image l.initial.places l.k l.seen l.places × (l.k ≤ l.blocks)
-
-abbrev pub decreases-loop-k : goal.decreases-loop-k
-decreases-loop-k l = l.k
+invariant-loop-k l = Looked l.image.blocks l.image.bytes.now l.initial.places l.k l.seen l.places × (l.k ≤ l.image.blocks)

@@ -1,20 +1,15 @@
 -- The job of a mount, built from the answers of its parts.
-use mathlib.Core.Path.{sym, ◌∙◌}
+use mathlib.Core.Path.{◌≡◌, sym, ◌∙◌}
+use Rattle.std.proofs.Common.{rules, Err}
 use Rattle.store.proofs.Outcomes.{mount_worn, mount_begun}
 use Rattle.store.proofs.mounts.mount_at.Goals as goal
 
-pub returns-then-is_worn : goal.returns-then-is_worn
-returns-then-is_worn c =
-    c.refused.ensures
-    ∙ mount_worn c.args.blocks c.args.last c.args.w c.args.list c.args.m c.is_worn.result c.is_worn.ensures c.if-is_worn.true
+pub returns-in_err-next_time : goal.returns-in_err-next_time
+returns-in_err-next_time c =
+    let r : c.from_residual.result ≡ Err c.in_err-next_time.field-0.0 = search rules in
+    r ∙ mount_worn c.args.blocks c.args.last c.args.w c.args.list c.args.m _ (sym c.in_err-next_time.ensures)
 
 pub returns : goal.returns
 returns c =
-    c.begin.ensures
-    ∙ rw (
-      c.next_block.ensures,
-      c.new_time.ensures,
-      c.standing-rest.ensures,
-      sym c.is_worn.ensures ∙ c.if-is_worn.false,
-      c.starting.ensures,
-    ) (mount_begun c.args.blocks c.args.last c.args.w c.args.list c.args.m c.is_worn.result c.is_worn.ensures c.if-is_worn.false)
+    rw (c.begin.ensures, c.next_block.ensures, c.standing-rest.ensures, c.starting.ensures, c.no_job.ensures)
+    (mount_begun c.args.blocks c.args.last c.args.w c.args.list c.args.m _ (sym c.in_ok-next_time.ensures))

@@ -1,5 +1,0 @@
--- `scene::new` is a bench before any call.
-use Rattle.scene.proofs.new.Goals as goal
-
-pub returns : goal.returns
-returns c = rw c.unmounted-board.ensures
