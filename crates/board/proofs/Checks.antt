@@ -19,9 +19,8 @@ use Rattle.wire.specs.declared.Refusal.{Refusal}
 use Rattle.wire.specs.declared.Refusal.TheVariants as refusal
 use Rattle.wire.specs.declared.Request.{Request}
 use Rattle.wire.specs.declared.Request.TheVariants.{Put, Delete, Commit, Abort, Read, Log, Convert}
-use Rattle.wire.specs.declared.Parsed.{Parsed}
-use Rattle.wire.specs.declared.Parsed.TheVariants.{Is, Malformed}
-use Rattle.wire.specs.Message.{parse, value_in_of, page_len, of_read_kind, id_in}
+use Rattle.wire.specs.Message.{Parsed, parse, value_in_of, page_len, of_read_kind, id_in}
+use Rattle.std.specs.Prelude.{Some, None}
 use Rattle.board.specs.declared.Phase.{Phase}
 use Rattle.board.specs.declared.Phase.TheVariants.{Unmounted, Idle, Busy}
 use Rattle.board.specs.declared.Record.{Record}
@@ -56,8 +55,8 @@ is_unmounted (Busy s) = false
 
 -- 1: "message malformed: length, kind, id, value length or page"
 abbrev pub is_malformed : Parsed → Bool
-is_malformed Malformed = true
-is_malformed (Is q) = false
+is_malformed None = true
+is_malformed (Some q) = false
 
 -- 9: "log: reply under 14 bytes"
 abbrev pub short_reply : Asking → Request → Bool
@@ -134,11 +133,11 @@ held_checks a x q =
 
 -- where 11 or 1 holds no later line can be the first
 abbrev pub later_checks : Asking → Bool → Option Journal → Parsed → List Check
-later_checks a true o Malformed = []
-later_checks a true o (Is q) = read_checks a (id_in a.message)
+later_checks a true o None = []
+later_checks a true o (Some q) = read_checks a (id_in a.message)
 later_checks a false none p = []
-later_checks a false (some x) Malformed = []
-later_checks a false (some x) (Is q) = held_checks a x q
+later_checks a false (some x) None = []
+later_checks a false (some x) (Some q) = held_checks a x q
 
 -- from 11 on, of a read and of any other message
 abbrev pub from_stale : Asking → Bool → Option Journal → Parsed → List Check

@@ -20,9 +20,8 @@ use Rattle.wire.specs.declared.Refusal.{Refusal}
 use Rattle.wire.specs.declared.Refusal.TheVariants as refusal
 use Rattle.wire.specs.Answer.{number_of}
 use Rattle.wire.specs.declared.Request.{Request}
-use Rattle.wire.specs.declared.Parsed.{Parsed}
-use Rattle.wire.specs.declared.Parsed.TheVariants.{Is, Malformed}
-use Rattle.wire.specs.Message.{parse, of_read_kind, id_in}
+use Rattle.wire.specs.Message.{Parsed, parse, of_read_kind, id_in}
+use Rattle.std.specs.Prelude.{Some, None}
 use Rattle.wire.specs.Sentences.{Means, ReadKind, MessagesExact, MalformedExact, ReadKindExact}
 use Rattle.wire.proofs.Sentences.{messages_exact, malformed-exact, read-kind-exact, read_asked}
 use Rattle.journal.specs.Block.{Journal}
@@ -140,8 +139,8 @@ module _ {M : ℕ} {m : Machine} (p : Calls M m) (img : List ℕ) (r : Record) (
 
       lost : (r.phase ≡ Unmounted → ⊥) → ReadKind msg → (((s : Request) → Means msg s → ⊥) → ⊥) → (PlaceLost (asking M img r h msg reply) → ⊥)
           → (s : Parsed) → parse msg ≡ s → ⊥
-      lost q k f g Malformed e = f ((malformed-exact msg).0 e)
-      lost q k f g (Is s) e =
+      lost q k f g None e = f ((malformed-exact msg).0 e)
+      lost q k f g (Some s) e =
           let w : Means msg s = (messages_exact msg s).0 e in
           g (record { id = id_in msg; is_asked = subst (Means msg) (read_asked msg s w k) w; misfits = inr (inl (d q)) })
 

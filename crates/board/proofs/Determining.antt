@@ -16,9 +16,8 @@ use Rattle.journal.specs.Block.{Journal}
 use Rattle.wire.specs.declared.Answer.{Answer}
 use Rattle.wire.specs.declared.Answer.TheVariants.{Done, More, Refused}
 use Rattle.wire.specs.declared.Request.{Request}
-use Rattle.wire.specs.declared.Parsed.{Parsed}
-use Rattle.wire.specs.declared.Parsed.TheVariants.{Is, Malformed}
-use Rattle.wire.specs.Message.{parse, of_read_kind, id_in}
+use Rattle.wire.specs.Message.{Parsed, parse, of_read_kind, id_in}
+use Rattle.std.specs.Prelude.{Some, None}
 use Rattle.wire.specs.Sentences.{Means, MessagesExact, MalformedExact, ReadKind, ReadKindExact}
 use Rattle.wire.proofs.Sentences.{messages_exact, malformed-exact, read-kind-exact, read_asked}
 use Rattle.wire.specs.declared.Request.TheVariants.{Read}
@@ -87,8 +86,8 @@ module _ {N : ℕ} {m : Machine} (p : Calls N m) (img : List ℕ) (by : Bytes im
       ans = (m img r (request h msg reply)).answer
 
       parsed : (((q : Request) → Means msg q → ⊥) → ⊥) → (w : Parsed) → parse msg ≡ w → (q : Request) × Means msg q
-      parsed g Malformed w = absurd (g ((malformed-exact msg).0 w))
-      parsed g (Is q) w = (q, (messages_exact msg q).0 w)
+      parsed g None w = absurd (g ((malformed-exact msg).0 w))
+      parsed g (Some q) w = (q, (messages_exact msg q).0 w)
 
       go : Exactly (request_lines (asking N img r h msg reply)) ans → (q : Request) × Means msg q
       go (inl (_, e)) = absurd (number-accepted ans 3 e a)

@@ -14,10 +14,9 @@ use Rattle.journal.specs.Replay.{lookup}
 use Rattle.wire.specs.declared.Answer.{Answer}
 use Rattle.wire.specs.declared.Answer.TheVariants.{Done, More}
 use Rattle.wire.specs.declared.Request.TheVariants.{Put, Delete, Commit, Abort, Read, Log, Convert}
-use Rattle.wire.specs.declared.Parsed.{Parsed}
-use Rattle.wire.specs.declared.Parsed.TheVariants.{Is, Malformed}
+use Rattle.wire.specs.Message.{Parsed, parse}
+use Rattle.std.specs.Prelude.{Some, None}
 use Rattle.wire.specs.Answer.{number_of}
-use Rattle.wire.specs.Message.{parse}
 use Rattle.board.specs.declared.Phase.{Phase}
 use Rattle.board.specs.declared.Phase.TheVariants.{Unmounted, Idle, Busy}
 use Rattle.board.specs.declared.Record.{Record}
@@ -102,14 +101,14 @@ read-shown s r q (some v) y = y
 
 request-shown : (z : Record) (w : Parsed) (reply : List ℕ) (s : Shown) (r q : Record) (b : Book) → RequestSays z w reply (out_of s r) b
     → RequestSays z w reply (out_of s q) b
-request-shown z Malformed reply s r q b y = y
-request-shown z (Is (Put i)) reply s r q b y = tt
-request-shown z (Is (Delete i)) reply s r q b y = tt
-request-shown z (Is Commit) reply s r q b y = tt
-request-shown z (Is Abort) reply s r q b y = tt
-request-shown z (Is (Read i)) reply s r q b y = read-shown s r q (lookup i b.objects) y
-request-shown z (Is (Log g)) reply s r q b y = y
-request-shown z (Is Convert) reply s r q b y = record { some_pending = y.some_pending; none_pending = y.none_pending }
+request-shown z None reply s r q b y = y
+request-shown z (Some (Put i)) reply s r q b y = tt
+request-shown z (Some (Delete i)) reply s r q b y = tt
+request-shown z (Some Commit) reply s r q b y = tt
+request-shown z (Some Abort) reply s r q b y = tt
+request-shown z (Some (Read i)) reply s r q b y = read-shown s r q (lookup i b.objects) y
+request-shown z (Some (Log g)) reply s r q b y = y
+request-shown z (Some Convert) reply s r q b y = record { some_pending = y.some_pending; none_pending = y.none_pending }
 
 -- a record that is idle here is the same there
 says-over : (N : ℕ) (img : List ℕ) (r q : Record) (b : Book) (u : Track) (c : Call) (o p : Out) → shown o ≡ shown p → (r.phase ≡ Idle → r ≡ q)

@@ -19,7 +19,7 @@ use Rattle.wire.specs.declared.Refusal.TheVariants as refusal
 use Rattle.wire.specs.declared.Page.TheVariants.{Summary}
 use Rattle.wire.specs.declared.Request.{Request}
 use Rattle.wire.specs.declared.Request.TheVariants.{Put, Delete, Commit, Abort, Read, Log, Convert}
-use Rattle.wire.specs.declared.Parsed.TheVariants.{Is, Malformed}
+use Rattle.std.specs.Prelude.{Some, None}
 use Rattle.wire.specs.Message.{parse, of_read_kind, id_in, value_in_of, page_len, log_page, with_page}
 use Rattle.flash.proofs.Cases.{on_test}
 use Rattle.board.specs.declared.Stage.{Stage}
@@ -173,10 +173,10 @@ module _ (a : Asking) where
         pub request_stale : held_for a ≡ none → request_on a ≡ refuse_to a refusal.Stale
         request_stale q = request_held ∙ ap (serve_held a) q
 
-        pub request_malformed : (x : Journal) → held_for a ≡ some x → parse a.message ≡ Malformed → request_on a ≡ refuse_to a refusal.Malformed
+        pub request_malformed : (x : Journal) → held_for a ≡ some x → parse a.message ≡ None → request_on a ≡ refuse_to a refusal.Malformed
         request_malformed x q z = request_held ∙ ap (serve_held a) q ∙ ap (serve_parsed a x) z
 
-        pub request_served : (x : Journal) (q : Request) → held_for a ≡ some x → parse a.message ≡ Is q → request_on a ≡ serve a x q
+        pub request_served : (x : Journal) (q : Request) → held_for a ≡ some x → parse a.message ≡ Some q → request_on a ≡ serve a x q
         request_served x q y z = request_held ∙ ap (serve_held a) y ∙ ap (serve_parsed a x) z
 
       -- a read, or what is malformed as one
@@ -184,10 +184,10 @@ module _ (a : Asking) where
         pub request_read : request_on a ≡ read_parsed a (parse a.message)
         request_read = request-in p ∙ ap (request_by a) k
 
-        pub read_malformed : parse a.message ≡ Malformed → request_on a ≡ refuse_to a refusal.Malformed
+        pub read_malformed : parse a.message ≡ None → request_on a ≡ refuse_to a refusal.Malformed
         read_malformed z = request_read ∙ ap (read_parsed a) z
 
-        pub read_placed : (q : Request) → parse a.message ≡ Is q → request_on a ≡ read_at a (id_in a.message)
+        pub read_placed : (q : Request) → parse a.message ≡ Some q → request_on a ≡ read_at a (id_in a.message)
         read_placed q z = request_read ∙ ap (read_parsed a) z
 
   -- a read by its place

@@ -27,9 +27,8 @@ use Rattle.wire.specs.declared.Refusal.TheVariants as refusal
 use Rattle.wire.specs.declared.Page.TheVariants.{Summary}
 use Rattle.wire.specs.declared.Request.{Request}
 use Rattle.wire.specs.declared.Request.TheVariants.{Put, Delete, Commit, Abort, Read, Log, Convert}
-use Rattle.wire.specs.declared.Parsed.{Parsed}
-use Rattle.wire.specs.declared.Parsed.TheVariants.{Is, Malformed}
-use Rattle.wire.specs.Message.{parse, value_in_of, page_len, of_read_kind, id_in}
+use Rattle.wire.specs.Message.{Parsed, parse, value_in_of, page_len, of_read_kind, id_in}
+use Rattle.std.specs.Prelude.{Some, None}
 use Rattle.board.specs.Mount.{next_block, replay_of, counts_of}
 use Rattle.board.specs.declared.Phase.{Phase}
 use Rattle.board.specs.declared.Phase.TheVariants.{Unmounted, Idle, Busy}
@@ -73,7 +72,7 @@ pub record Asked (a : Asking) : Type 0 where
   pub length_ok : allowed a.blocks (length a.image) ≡ true
   pub host_ok : a.host.0 ≤ host_max
   pub is_held : held_for a ≡ some holding
-  pub is_asked : parse a.message ≡ Is asked
+  pub is_asked : parse a.message ≡ Some asked
   pub is_frame : task_for a.host a.message holding asked ≡ appends frame
   pub has_room : no_room_for a holding asked ≡ false
   pub not_worn : (moves_for a holding frame && eqb holding.time last_time) ≡ false
@@ -84,7 +83,7 @@ pub record AskedConvert (a : Asking) : Type 0 where
   pub length_ok : allowed a.blocks (length a.image) ≡ true
   pub host_ok : a.host.0 ≤ host_max
   pub is_held : held_for a ≡ some holding
-  pub is_asked : parse a.message ≡ Is Convert
+  pub is_asked : parse a.message ≡ Some Convert
   pub is_first : holding.edition ≡ edition.First
   pub none_pending : (replay_of holding).pending ≡ []
   pub has_room : ltb (size_for a) (used edition.Second (replay_of holding)) ≡ false
@@ -111,7 +110,7 @@ module _ (a : Asking) where
   over e x = subst (Met a) (sym e) x
 
   module _ (ok : allowed a.blocks (length a.image) ≡ true) (k : a.host.0 ≤ host_max) (x : Journal) (e : held_for a ≡ some x) where
-    module _ (q : Request) (p : parse a.message ≡ Is q) where
+    module _ (q : Request) (p : parse a.message ≡ Some q) where
       append_met : (f : Frame) → task_for a.host a.message x q ≡ appends f → no_room_for a x q ≡ false → Met a (append a x f)
       append_met f g n =
           on_test (moves_for a x f && eqb x.time last_time)
@@ -147,7 +146,7 @@ module _ (a : Asking) where
           (λ t. over (end_goes a x f t) (append_met f (g ∙ ap (λ (b : Bool). end_task b f) t) n))
           (λ t. over (end_idle a x f t) (done refl refl refl))
 
-    convert-in : parse a.message ≡ Is Convert → (replay_of x).pending ≡ [] → ltb (size_for a) (used edition.Second (replay_of x)) ≡ false
+    convert-in : parse a.message ≡ Some Convert → (replay_of x).pending ≡ [] → ltb (size_for a) (used edition.Second (replay_of x)) ≡ false
         → (d : Edition) → x.edition ≡ d → Met a (convert a x d)
     convert-in p n l edition.First g =
         on_test (eqb x.time last_time)
@@ -167,7 +166,7 @@ module _ (a : Asking) where
         (convert_begins a x t))
     convert-in p n l edition.Second g = over (convert_there a x) (done refl refl refl)
 
-    convert_met : parse a.message ≡ Is Convert → (es : List Entry) → (replay_of x).pending ≡ es → Met a (serve_convert a x)
+    convert_met : parse a.message ≡ Some Convert → (es : List Entry) → (replay_of x).pending ≡ es → Met a (serve_convert a x)
     convert_met p (y ∷ es) n = refused refusal.Pending (convert_pending a x y es n)
     convert_met p [] n =
         on_test (ltb (size_for a) (used edition.Second (replay_of x)))
@@ -178,7 +177,7 @@ module _ (a : Asking) where
     scan_met i none l = refused refusal.NoObject (read_none a x i l)
     scan_met i (some v) l = over (read_some a x i v l) (done refl refl refl)
 
-    serve_met : (q : Request) → parse a.message ≡ Is q → Met a (serve a x q)
+    serve_met : (q : Request) → parse a.message ≡ Some q → Met a (serve a x q)
     serve_met (Put i) p = over (serve_put a x i) (change_met (Put i) p (put i (value_in_of a.message)) refl refl)
     serve_met (Delete i) p = over (serve_delete a x i) (change_met (Delete i) p (delete i) refl refl)
     serve_met Commit p = over (serve_commit a x) (end_met Commit p (commit a.host) refl refl)
@@ -192,8 +191,8 @@ module _ (a : Asking) where
     serve_met Convert p = over (serve-convert a x) (convert_met p (replay_of x).pending refl)
 
     parsed_met : (p : Parsed) → parse a.message ≡ p → Met a (serve_parsed a x p)
-    parsed_met Malformed p = refused refusal.Malformed refl
-    parsed_met (Is q) p = serve_met q p
+    parsed_met None p = refused refusal.Malformed refl
+    parsed_met (Some q) p = serve_met q p
 
   module _ (ok : allowed a.blocks (length a.image) ≡ true) (k : a.host.0 ≤ host_max) where
     held_met : (x : Option Journal) → held_for a ≡ x → Met a (serve_held a x)
@@ -207,8 +206,8 @@ module _ (a : Asking) where
     read_met i (found x t z v q) = over q (done refl refl refl)
 
     read-parsed : (p : Parsed) → Met a (read_parsed a p)
-    read-parsed Malformed = refused refusal.Malformed refl
-    read-parsed (Is q) = read_met (id_in a.message) (read_case a (id_in a.message))
+    read-parsed None = refused refusal.Malformed refl
+    read-parsed (Some q) = read_met (id_in a.message) (read_case a (id_in a.message))
 
     kind_met : (b : Bool) → Met a (request_by a b)
     kind_met true = read-parsed (parse a.message)

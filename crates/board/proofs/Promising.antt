@@ -26,7 +26,7 @@ use Rattle.wire.specs.declared.Refusal.TheVariants as refusal
 use Rattle.wire.specs.declared.Page.TheVariants.{Summary}
 use Rattle.wire.specs.declared.Request.{Request}
 use Rattle.wire.specs.declared.Request.TheVariants.{Put, Delete, Commit, Abort, Read, Log, Convert}
-use Rattle.wire.specs.declared.Parsed.TheVariants.{Is}
+use Rattle.std.specs.Prelude.{Some}
 use Rattle.wire.specs.Answer.{number_of}
 use Rattle.wire.specs.Message.{parse, value_in_of, page_len}
 use Rattle.board.proofs.Reading.{one-request, as_before}
@@ -89,7 +89,7 @@ module _ (a : Asking) (by : Bytes a.image) (bm : Bytes a.message) (x : Journal) 
         hands_back = subst (λ (y : Out). HandsBack a x q y.stretch) (sym d) v;
       }
 
-  module _ (q : Request) (p : parse a.message ≡ Is q) (u : a.reply ≡ reply_for a x q) (v : HandsBack a x q no_stretch) where
+  module _ (q : Request) (p : parse a.message ≡ Some q) (u : a.reply ≡ reply_for a x q) (v : HandsBack a x q no_stretch) where
     begun : (o : Out) (y : Asked a) → o ≡ begun_by y → (f : Frame) → task_for a.host a.message x q ≡ appends f → Met q o
     begun o y d f g t =
         record {
@@ -138,7 +138,7 @@ module _ (a : Asking) (by : Bytes a.image) (bm : Bytes a.message) (x : Journal) 
 
   module _ (ok : allowed a.blocks (length a.image) ≡ true) where
     -- where the value stands
-    stands : (i : ObjectId) → parse a.message ≡ Is (Read i) → (v : List ℕ) → lookup i (replay_of x).objects ≡ some v
+    stands : (i : ObjectId) → parse a.message ≡ Some (Read i) → (v : List ℕ) → lookup i (replay_of x).objects ≡ some v
         → Stands a x i (place_of a.blocks a.image a.board x i)
     unfolding FreshExact MessagesExact StretchExact
     stands i p v l =
@@ -146,7 +146,7 @@ module _ (a : Asking) (by : Bytes a.image) (bm : Bytes a.message) (x : Journal) 
         let y = stretch-exact a.blocks a.image a.board x i v f.is-valid ((messages_exact a.message (Read i)).0 p).3 l in
         record { value = v; at = y.0; from = y.2; is = y.1 }
 
-    read_met : (i : ObjectId) → parse a.message ≡ Is (Read i) → (v : Option (List ℕ)) → lookup i (replay_of x).objects ≡ v
+    read_met : (i : ObjectId) → parse a.message ≡ Some (Read i) → (v : Option (List ℕ)) → lookup i (replay_of x).objects ≡ v
         → Met (Read i) (serve a x (Read i))
     read_met i p none l = turned_down (Read i) refusal.NoObject (read_none a x i l)
     read_met i p (some v) l =
@@ -159,7 +159,7 @@ module _ (a : Asking) (by : Bytes a.image) (bm : Bytes a.message) (x : Journal) 
         (λ t. turned_down (Log Summary) refusal.ShortReply (log_short a x t))
         (λ t. at_once (Log Summary) _ no_stretch (log_done a x t) refl refl))
 
-    convert-in : a.host.0 ≤ host_max → parse a.message ≡ Is Convert → (replay_of x).pending ≡ []
+    convert-in : a.host.0 ≤ host_max → parse a.message ≡ Some Convert → (replay_of x).pending ≡ []
         → ltb (size_for a) (used edition.Second (replay_of x)) ≡ false → (d : Edition) → x.edition ≡ d → Met Convert (convert a x d)
     convert-in k p n l edition.First g =
         on_test (eqb x.time last_time)
@@ -187,14 +187,14 @@ module _ (a : Asking) (by : Bytes a.image) (bm : Bytes a.message) (x : Journal) 
     convert-in k p n l edition.Second g =
         at_once Convert (convert a x edition.Second) no_stretch (convert_there a x) refl (ap convert_task g)
 
-    convert_met : a.host.0 ≤ host_max → parse a.message ≡ Is Convert → (es : List Entry) → (replay_of x).pending ≡ es → Met Convert (serve_convert a x)
+    convert_met : a.host.0 ≤ host_max → parse a.message ≡ Some Convert → (es : List Entry) → (replay_of x).pending ≡ es → Met Convert (serve_convert a x)
     convert_met k p (y ∷ es) n = turned_down Convert refusal.Pending (convert_pending a x y es n)
     convert_met k p [] n =
         on_test (ltb (size_for a) (used edition.Second (replay_of x)))
         (λ t. turned_down Convert refusal.NoRoom (convert_refused a x n t))
         (λ t. over Convert (convert_goes a x n t) (convert-in k p n t x.edition refl))
 
-    serve_met : a.host.0 ≤ host_max → (q : Request) → parse a.message ≡ Is q → Met q (serve a x q)
+    serve_met : a.host.0 ≤ host_max → (q : Request) → parse a.message ≡ Some q → Met q (serve a x q)
     serve_met k (Put i) p = over (Put i) (serve_put a x i) (change_met (Put i) p refl refl ok k (put i (value_in_of a.message)) refl refl)
     serve_met k (Delete i) p = over (Delete i) (serve_delete a x i) (change_met (Delete i) p refl refl ok k (delete i) refl refl)
     serve_met k Commit p = over Commit (serve_commit a x) (end_met Commit p refl refl ok k (commit a.host) refl refl)
@@ -203,13 +203,13 @@ module _ (a : Asking) (by : Bytes a.image) (bm : Bytes a.message) (x : Journal) 
     serve_met k (Log Summary) p = log_met
     serve_met k Convert p = over Convert (serve-convert a x) (convert_met k p (replay_of x).pending refl)
 
-    phase_met : leb a.host.0 host_max ≡ true → (q : Request) → parse a.message ≡ Is q → (s : Phase) → a.board.phase ≡ s → Met q (request_on a)
+    phase_met : leb a.host.0 host_max ≡ true → (q : Request) → parse a.message ≡ Some q → (s : Phase) → a.board.phase ≡ s → Met q (request_on a)
     phase_met k q p (Busy s) d = turned_down q refusal.Busy (request-in a ok k d)
     phase_met k q p Unmounted d = turned_down q refusal.NoStore (request-in a ok k d)
     phase_met k q p Idle d =
         over q (as_before a x by ok (leb-true a.host.0 host_max k) d e ∙ ap (serve_parsed a x) p) (serve_met (leb-true a.host.0 host_max k) q p)
 
-    request_met : (q : Request) → parse a.message ≡ Is q → Met q (request_on a)
+    request_met : (q : Request) → parse a.message ≡ Some q → Met q (request_on a)
     request_met q p =
         on_test (leb a.host.0 host_max)
         (λ k. phase_met k q p a.board.phase refl)

@@ -22,9 +22,8 @@ use Rattle.journal.specs.Index.{Value, value_at}
 use Rattle.journal.proofs.Places.{Standing, ValueStands, place_law, no_place}
 use Rattle.wire.specs.declared.Request.{Request}
 use Rattle.wire.specs.declared.Request.TheVariants.{Read}
-use Rattle.wire.specs.declared.Parsed.{Parsed}
-use Rattle.wire.specs.declared.Parsed.TheVariants.{Is, Malformed}
-use Rattle.wire.specs.Message.{parse, of_read_kind, id_in}
+use Rattle.wire.specs.Message.{Parsed, parse, of_read_kind, id_in}
+use Rattle.std.specs.Prelude.{Some, None}
 use Rattle.wire.specs.Sentences.{Means, MessagesExact, ReadKindExact}
 use Rattle.wire.proofs.Sentences.{messages_exact, read-kind-exact, read_asked, asks_read}
 use Rattle.board.specs.declared.Phase.TheVariants.{Idle}
@@ -46,7 +45,7 @@ use Rattle.board.proofs.Freshness.{fresh-exact}
 use Rattle.board.proofs.Outcomes.{read_none, read_some, request_held, read_malformed, read_placed, read_shaped, read_absent, read_there}
 
 -- a message means one request
-pub is_request : {x y : Request} → Is x ≡ Is y → x ≡ y
+pub is_request : {x y : Request} → Some x ≡ Some y → x ≡ y
 is_request e = cc
 
 pub one-request : (m : List ℕ) (q s : Request) → Means m q → Means m s → q ≡ s
@@ -54,7 +53,7 @@ unfolding MessagesExact
 one-request m q s a b = is_request (sym ((messages_exact m q).1 a) ∙ (messages_exact m s).1 b)
 
 -- a message of any other kind asks for no read
-pub no_read : (m : List ℕ) → of_read_kind m ≡ false → (i : ObjectId) → parse m ≡ Is (Read i) → ⊥
+pub no_read : (m : List ℕ) → of_read_kind m ≡ false → (i : ObjectId) → parse m ≡ Some (Read i) → ⊥
 unfolding MessagesExact ReadKindExact
 no_read m k i e = clash (of_read_kind m) ((read-kind-exact m).1 (asks_read m i ((messages_exact m (Read i)).0 e))) k
 
@@ -142,8 +141,8 @@ module _ (a : Asking) (x : Journal) (by : Bytes a.image) (ok : allowed a.blocks 
 
   of-kind : (m : Parsed) → parse a.message ≡ m → of_read_kind a.message ≡ true → request_on a ≡ serve_parsed a x m
   unfolding MessagesExact ReadKindExact
-  of-kind Malformed z k = read_malformed a ok hosted k p z
-  of-kind (Is q) z k =
+  of-kind None z k = read_malformed a ok hosted k p z
+  of-kind (Some q) z k =
       let w : Means a.message q = (messages_exact a.message q).0 z in
       let i : q ≡ Read (id_in a.message) = read_asked a.message q w ((read-kind-exact a.message).0 k) in
       let b : (id_in a.message).0 ≤ 255 = id-most a.message (subst (Means a.message) i w) in

@@ -25,9 +25,8 @@ use Rattle.wire.specs.declared.Refusal.TheVariants as refusal
 use Rattle.wire.specs.declared.Page.TheVariants.{Summary}
 use Rattle.wire.specs.declared.Request.{Request}
 use Rattle.wire.specs.declared.Request.TheVariants.{Put, Delete, Commit, Abort, Read, Log, Convert}
-use Rattle.wire.specs.declared.Parsed.{Parsed}
-use Rattle.wire.specs.declared.Parsed.TheVariants.{Is, Malformed}
-use Rattle.wire.specs.Message.{parse, value_in_of, page_len, of_read_kind, id_in}
+use Rattle.wire.specs.Message.{Parsed, parse, value_in_of, page_len, of_read_kind, id_in}
+use Rattle.std.specs.Prelude.{Some, None}
 use Rattle.board.proofs.Reading.{no_read}
 use Rattle.board.specs.declared.Phase.{Phase}
 use Rattle.board.specs.declared.Phase.TheVariants.{Unmounted, Idle, Busy}
@@ -143,8 +142,8 @@ module _ (a : Asking) where
           over e (passes (rw (t, z, v)) (passes z (passes refl (passes refl (passes refl (passes refl (passes refl (accepted refl refl))))))))
 
   read-parsed : (p : Parsed) → Asked (check refusal.Malformed (is_malformed p) ∷ later_checks a true (held_for a) p) (read_parsed a p)
-  read-parsed Malformed = stops refl refl refl
-  read-parsed (Is q) = passes refl (read_asked (id_in a.message))
+  read-parsed None = stops refl refl refl
+  read-parsed (Some q) = passes refl (read_asked (id_in a.message))
 
   log_asked : (x : Journal) → Asked (check refusal.ShortReply (short_reply a (Log Summary)) ∷ check refusal.Pending false ∷ check refusal.HostFull false
       ∷ check refusal.NoRoom false ∷ check refusal.Worn false ∷ []) (serve a x (Log Summary))
@@ -174,7 +173,7 @@ module _ (a : Asking) where
       (λ t. over (convert_goes a x p t) (passes t (convert-in x x.edition)))))
 
   -- any other request
-  serve_asked : of_read_kind a.message ≡ false → (x : Journal) (q : Request) → parse a.message ≡ Is q → Asked (held_checks a x q) (serve a x q)
+  serve_asked : of_read_kind a.message ≡ false → (x : Journal) (q : Request) → parse a.message ≡ Some q → Asked (held_checks a x q) (serve a x q)
   serve_asked k x q p = passes refl (passes refl (go q p))
     where
       Rest : Request → List Check
@@ -182,7 +181,7 @@ module _ (a : Asking) where
           check refusal.ShortReply (short_reply a q) ∷ check refusal.Pending (pending_rule x q) ∷ check refusal.HostFull (host_full_for a x q)
           ∷ check refusal.NoRoom (no_room_for a x q) ∷ check refusal.Worn (worn a x (task_for a.host a.message x q)) ∷ []
 
-      go : (q : Request) → parse a.message ≡ Is q → Asked (Rest q) (serve a x q)
+      go : (q : Request) → parse a.message ≡ Some q → Asked (Rest q) (serve a x q)
       go (Put i) p = over (serve_put a x i) (passes refl (passes refl (change_asked x (put i (value_in_of a.message)))))
       go (Delete i) p = over (serve_delete a x i) (passes refl (passes refl (change_asked x (delete i))))
       go Commit p = over (serve_commit a x) (passes refl (passes refl (passes refl (passes refl (end_asked x (commit a.host))))))
@@ -193,8 +192,8 @@ module _ (a : Asking) where
 
   parsed_asked : of_read_kind a.message ≡ false → (x : Journal) (p : Parsed) → parse a.message ≡ p
       → Asked (check refusal.Malformed (is_malformed p) ∷ later_checks a false (some x) p) (serve_parsed a x p)
-  parsed_asked k x Malformed e = stops refl refl refl
-  parsed_asked k x (Is q) e = passes refl (serve_asked k x q e)
+  parsed_asked k x None e = stops refl refl refl
+  parsed_asked k x (Some q) e = passes refl (serve_asked k x q e)
 
   held_asked : of_read_kind a.message ≡ false → (x : Option Journal) → Asked (from_stale a false x (parse a.message)) (serve_held a x)
   held_asked k none = stops refl refl refl

@@ -20,9 +20,8 @@ use Rattle.wire.specs.declared.Refusal.TheVariants as refusal
 use Rattle.wire.specs.declared.Page.TheVariants.{Summary}
 use Rattle.wire.specs.declared.Request.{Request}
 use Rattle.wire.specs.declared.Request.TheVariants.{Put, Delete, Commit, Abort, Read, Log, Convert}
-use Rattle.wire.specs.declared.Parsed.{Parsed}
-use Rattle.wire.specs.declared.Parsed.TheVariants.{Is, Malformed}
-use Rattle.wire.specs.Message.{parse}
+use Rattle.wire.specs.Message.{Parsed, parse}
+use Rattle.std.specs.Prelude.{Some, None}
 use Rattle.wire.proofs.Parsing.{put-parsed, delete-parsed, read-parsed}
 use Rattle.board.proofs.Reading.{as_before}
 use Rattle.board.specs.declared.Phase.{Phase}
@@ -48,17 +47,17 @@ abbrev pub Requested : ℕ → ℕ → List ℕ → Record → Book → Track �
 Requested N s img r b u h m reply o =
     RequestKeeps N s b u h m o × (r.phase ≡ Idle → h.0 ≤ host_max → RequestSays r (parse m) reply o b)
 
-entered-is : (b : Book) (h : Host) (m : List ℕ) (q : Request) (a : Answer) → parse m ≡ Is q → entered b h m q a ≡ enter_request b h m a
+entered-is : (b : Book) (h : Host) (m : List ℕ) (q : Request) (a : Answer) → parse m ≡ Some q → entered b h m q a ≡ enter_request b h m a
 entered-is b h m q Done e = ap (λ (p : Parsed). enter_parsed b h m p Done) (sym e)
 entered-is b h m q More e = ap (λ (p : Parsed). enter_parsed b h m p More) (sym e)
 entered-is b h m q (Refused n) e = refl
 
-tracks-is : (s : ℕ) (u : Track) (b : Book) (m : List ℕ) (q : Request) (a : Answer) → parse m ≡ Is q → tracks s u b q a ≡ track_request s u b m a
+tracks-is : (s : ℕ) (u : Track) (b : Book) (m : List ℕ) (q : Request) (a : Answer) → parse m ≡ Some q → tracks s u b q a ≡ track_request s u b m a
 tracks-is s u b m q Done e = ap (track_parsed s u b) (sym e)
 tracks-is s u b m q More e = ap (track_parsed s u b) (sym e)
 tracks-is s u b m q (Refused n) e = refl
 
-pub legal : (ed : Edition) (h : Host) (m : List ℕ) (q : Request) → h.0 ≤ host_max → Bytes m → parse m ≡ Is q → Legal ed h m q
+pub legal : (ed : Edition) (h : Host) (m : List ℕ) (q : Request) → h.0 ≤ host_max → Bytes m → parse m ≡ Some q → Legal ed h m q
 legal ed h m (Put i) k b e = let g = put-parsed m i b e in (k, g.0, (g.1, g.2))
 legal ed h m (Delete i) k b e = (k, delete-parsed m i e)
 legal ed h m Commit k b e = tt
@@ -79,7 +78,7 @@ module _ {N : ℕ} {s : ℕ} {img : List ℕ} {r : Record} {b : Book} {u : Track
       → (r.phase ≡ Idle → h.0 ≤ host_max → ⊥) → Is-had (refuse_to a n)
   turned_away n i c f = ((v, i, c), λ e k. absurd (f e k))
 
-  idle_says : (y : IdleBook N s u img r b) (q : Request) → parse m ≡ Is q → RequestSays r (Is q) reply (serve a y.ready.journal q) b
+  idle_says : (y : IdleBook N s u img r b) (q : Request) → parse m ≡ Some q → RequestSays r (Some q) reply (serve a y.ready.journal q) b
   idle_says y (Put i) e = tt
   idle_says y (Delete i) e = tt
   idle_says y Commit e = tt
@@ -101,12 +100,12 @@ module _ {N : ℕ} {s : ℕ} {img : List ℕ} {r : Record} {b : Book} {u : Track
       x = y.ready.journal
 
       go : (p : Parsed) → parse m ≡ p → Is-had (request_on a)
-      go Malformed q =
+      go None q =
           subst Is-had (sym (before y e t ∙ ap (serve_parsed a x) q)) (
             (v, λ c. (let w : ◌≡◌ {A = ℕ} 0 1 = cc in omega arith), λ c. (let w : ◌≡◌ {A = ℕ} 0 1 = cc in omega arith)),
             λ i j. subst (λ (p : Parsed). RequestSays r p reply (refuse_to a refusal.Malformed) b) (sym q) refl,
           )
-      go (Is w) q =
+      go (Some w) q =
           let o : Out = serve a y.ready.journal w in
           let z : Served N s b u h m w o = served u v.sized v.bytes y reply h (leb-true h.0 host_max t) m w
           (legal x.edition h m w (leb-true h.0 host_max t) by q) in

@@ -27,7 +27,7 @@ use Rattle.wire.specs.declared.Refusal.TheVariants as refusal
 use Rattle.wire.specs.declared.Page.TheVariants.{Summary}
 use Rattle.wire.specs.declared.Request.{Request}
 use Rattle.wire.specs.declared.Request.TheVariants.{Put, Delete, Commit, Abort, Read, Log, Convert}
-use Rattle.wire.specs.declared.Parsed.TheVariants.{Is}
+use Rattle.std.specs.Prelude.{Some}
 use Rattle.wire.specs.Message.{value_in_of, page_len, log_page, with_page}
 use Rattle.board.specs.Mount.{next_block, replay_of}
 use Rattle.board.specs.declared.Record.{Record}
@@ -81,8 +81,8 @@ entered b h m q (Refused n) = b
 
 -- and what is then known of formats and converts
 abbrev pub tracks : ℕ → Track → Book → Request → Answer → Track
-tracks s u b q Done = track_parsed s u b (Is q)
-tracks s u b q More = track_parsed s u b (Is q)
+tracks s u b q Done = track_parsed s u b (Some q)
+tracks s u b q More = track_parsed s u b (Some q)
 tracks s u b q (Refused n) = u
 
 -- the invariant is kept and neither 4 nor 11 is answered
@@ -122,7 +122,7 @@ module _ {N : ℕ} {s : ℕ} {img : List ℕ} {r : Record} {b : Book} (u : Track
 
   -- only a convert is remembered
   abbrev Forgets : Request → Type 0
-  Forgets q = (track_parsed s u b (Is q) ≡ u) × (track_step u (accept b h m q More).under Done ≡ u)
+  Forgets q = (track_parsed s u b (Some q) ≡ u) × (track_step u (accept b h m q More).under Done ≡ u)
 
   same : Inv N s img r b u
   same = inv_idle r z by y
@@ -165,9 +165,9 @@ module _ {N : ℕ} {s : ℕ} {img : List ℕ} {r : Record} {b : Book} (u : Track
 
   -- an answer of 0 on the record as it is, with another reply or a stretch
   done : (q : Request) (o : Out) → o.answer ≡ Done → o.image ≡ img → o.board ≡ r
-      → IdleBook N s (track_parsed s u b (Is q)) img r (accept b h m q Done) → Served N s b u h m q o
+      → IdleBook N s (track_parsed s u b (Some q)) img r (accept b h m q Done) → Served N s b u h m q o
   done q o e i p w =
-      let v : Track = track_parsed s u b (Is q) in (
+      let v : Track = track_parsed s u b (Some q) in (
         subst (λ (a : Answer). Inv N s o.image o.board (entered b h m q a) (tracks s u b q a)) (sym e)
             (subst (λ (l : List ℕ). Inv N s l o.board (accept b h m q Done) v) (sym i)
             (subst (λ (c : Record). Inv N s img c (accept b h m q Done) v) (sym p) (inv_idle r z by w))),
@@ -187,7 +187,7 @@ module _ {N : ℕ} {s : ℕ} {img : List ℕ} {r : Record} {b : Book} (u : Track
   rests : track_step u b.under Done ≡ u
   rests = ap (λ (w : UnderWay). track_step u w Done) y.under
 
-  changed : (q : Request) (c : Change) → accept b h m q More ≡ join b h c → track_parsed s u b (Is q) ≡ u → MayStand ed 256 (change h c)
+  changed : (q : Request) (c : Change) → accept b h m q More ≡ join b h c → track_parsed s u b (Some q) ≡ u → MayStand ed 256 (change h c)
       → Served N s b u h m q (serve_change a x c)
   changed q c e w g =
       on_test (host_full ed (size_of N img) st h c)
@@ -205,7 +205,7 @@ module _ {N : ℕ} {s : ℕ} {img : List ℕ} {r : Record} {b : Book} (u : Track
 
   ended : (q : Request) (f : Frame) → Tears f → MayStand ed 256 f → (is_open_of h st.pending ≡ true → Entered u.tight s ed st f (accept b h m q More))
       → (accept b h m q More).objects ≡ b.objects → Forgets q
-      → (is_open_of h st.pending ≡ false → IdleBook N s (track_parsed s u b (Is q)) img r (accept b h m q Done)) → Served N s b u h m q (serve_end a x f)
+      → (is_open_of h st.pending ≡ false → IdleBook N s (track_parsed s u b (Some q)) img r (accept b h m q Done)) → Served N s b u h m q (serve_end a x f)
   ended q f o g e os w n =
       on_test (is_open_of h st.pending)
       (λ t. subst (Served N s b u h m q) (sym (end_goes a x f t)) (appended q f o g (e t) os w))
@@ -252,7 +252,7 @@ module _ {N : ℕ} {s : ℕ} {img : List ℕ} {r : Record} {b : Book} (u : Track
     where
       -- the track of a convert that is not refused
       u' : Track
-      u' = track_parsed s u b (Is Convert)
+      u' = track_parsed s u b (Some Convert)
 
       -- in edition 2 already: the store stays as tight as it is
       there : x.edition ≡ edition.Second → IdleBook N s u' img r b

@@ -23,9 +23,8 @@ use Rattle.journal.proofs.ReplayLaws.{pending-exact, used-exact}
 use Rattle.wire.specs.declared.Refusal.TheVariants as refusal
 use Rattle.wire.specs.declared.Request.{Request}
 use Rattle.wire.specs.declared.Request.TheVariants.{Put, Delete, Commit, Abort, Read, Log, Convert}
-use Rattle.wire.specs.declared.Parsed.{Parsed}
-use Rattle.wire.specs.declared.Parsed.TheVariants.{Is, Malformed}
-use Rattle.wire.specs.Message.{parse, page_len, value_in_of, of_read_kind, id_in}
+use Rattle.wire.specs.Message.{Parsed, parse, page_len, value_in_of, of_read_kind, id_in}
+use Rattle.std.specs.Prelude.{Some, None}
 use Rattle.wire.specs.Sentences.{Means, MessagesExact, MalformedExact, ReadKind, ReadKindExact}
 use Rattle.wire.proofs.Sentences.{messages_exact, malformed-exact, read-kind-exact, read_asked}
 use Rattle.board.proofs.Reading.{one-request, no_read}
@@ -126,8 +125,8 @@ module _ (a : Asking) (by : Bytes a.image) (ok : allowed a.blocks (length a.imag
 
   malformed_test : (p : Parsed) → parse a.message ≡ p → Tests (is_malformed p) ((q : Request) → Means a.message q → ⊥)
   unfolding MessagesExact MalformedExact
-  malformed_test Malformed e = record { yes = λ t. (malformed-exact a.message).0 e; no = λ f. refl }
-  malformed_test (Is q) e = record { yes = λ t. false-true t; no = λ f. absurd (f q ((messages_exact a.message q).0 e)) }
+  malformed_test None e = record { yes = λ t. (malformed-exact a.message).0 e; no = λ f. refl }
+  malformed_test (Some q) e = record { yes = λ t. false-true t; no = λ f. absurd (f q ((messages_exact a.message q).0 e)) }
 
   module _ (x : Journal) (q : Request) (fresh : FreshFor a x) (means : Means a.message q) where
     short_test : Tests (short_reply a q) (ShortReply a)
@@ -284,8 +283,8 @@ module _ (a : Asking) (by : Bytes a.image) (ok : allowed a.blocks (length a.imag
   parsed_rows : of_read_kind a.message ≡ false → (x : Journal) → FreshFor a x → (p : Parsed) → parse a.message ≡ p
       → Rows (check refusal.Malformed (is_malformed p) ∷ later_checks a false (some x) p) last_lines
   unfolding MessagesExact
-  parsed_rows k x f Malformed e = row refusal.Malformed (malformed_test Malformed e) (λ t. false-true (sym t))
-  parsed_rows k x f (Is q) e = row refusal.Malformed (malformed_test (Is q) e) (λ _. held_rows x q f ((messages_exact a.message q).0 e) k)
+  parsed_rows k x f None e = row refusal.Malformed (malformed_test None e) (λ t. false-true (sym t))
+  parsed_rows k x f (Some q) e = row refusal.Malformed (malformed_test (Some q) e) (λ _. held_rows x q f ((messages_exact a.message q).0 e) k)
 
   stale_rows : of_read_kind a.message ≡ false → Tests false (ReadKind a.message) → (o : Option Journal) → held_for a ≡ o
       → Rows (from_stale a false o (parse a.message)) (line 11 ((ReadKind a.message → ⊥) × ((x : Journal) → FreshFor a x → ⊥)) ∷ last_lines)
@@ -295,10 +294,10 @@ module _ (a : Asking) (by : Bytes a.image) (ok : allowed a.blocks (length a.imag
   read_rows : of_read_kind a.message ≡ true → (p : Parsed) → parse a.message ≡ p
       → Rows (check refusal.Malformed (is_malformed p) ∷ later_checks a true (held_for a) p) last_lines
   unfolding MessagesExact ReadKindExact
-  read_rows k Malformed e = row refusal.Malformed (malformed_test Malformed e) (λ t. false-true (sym t))
-  read_rows k (Is q) e =
+  read_rows k None e = row refusal.Malformed (malformed_test None e) (λ t. false-true (sym t))
+  read_rows k (Some q) e =
       let w : Means a.message q = (messages_exact a.message q).0 e in
-      row refusal.Malformed (malformed_test (Is q) e)
+      row refusal.Malformed (malformed_test (Some q) e)
       (λ _. placed_rows a (id_in a.message) (subst (Means a.message) (read_asked a.message q w ((read-kind-exact a.message).0 k)) w))
 
   kind_rows : (b : Bool) → of_read_kind a.message ≡ b → Tests b (ReadKind a.message)

@@ -22,7 +22,7 @@ use Rattle.wire.specs.declared.Answer.{Answer}
 use Rattle.wire.specs.declared.Answer.TheVariants.{Done, More, Refused}
 use Rattle.wire.specs.declared.Request.{Request}
 use Rattle.wire.specs.declared.Request.TheVariants.{Commit}
-use Rattle.wire.specs.declared.Parsed.{Parsed}
+use Rattle.wire.specs.Message.{Parsed}
 use Rattle.wire.specs.Answer.{number_of}
 use Rattle.board.specs.declared.Phase.{Phase}
 use Rattle.board.specs.declared.Phase.TheVariants.{Idle}

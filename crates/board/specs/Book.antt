@@ -1,5 +1,5 @@
 -- The book, document 01, "The book for demand 3": it is fed each call's arguments other than image and record, and its answer.
-use Rattle.std.specs.Prelude.{List, [], ◌∷◌, ◌++◌, true, false, ℕ, eqb}
+use Rattle.std.specs.Prelude.{List, [], ◌∷◌, ◌++◌, true, false, ℕ, eqb, Some, None}
 use Rattle.frame.specs.declared.Host.{Host}
 use Rattle.frame.specs.Frame.{Change, put, delete}
 use Rattle.journal.specs.Replay.{Object, change_all}
@@ -7,9 +7,7 @@ use Rattle.wire.specs.declared.Answer.{Answer}
 use Rattle.wire.specs.declared.Answer.TheVariants.{Done, More, Refused}
 use Rattle.wire.specs.declared.Request.{Request}
 use Rattle.wire.specs.declared.Request.TheVariants.{Put, Delete, Commit, Abort, Read, Log, Convert}
-use Rattle.wire.specs.declared.Parsed.{Parsed}
-use Rattle.wire.specs.declared.Parsed.TheVariants.{Is, Malformed}
-use Rattle.wire.specs.Message.{parse, value_in_of}
+use Rattle.wire.specs.Message.{Parsed, parse, value_in_of}
 use Rattle.board.specs.Exec.{Call, request, step, mount, format}
 
 -- "the commit or format under way, if any"
@@ -56,8 +54,8 @@ accept b h m Convert a = b
 
 -- "Anything else, every other refusal too: no change."
 abbrev pub enter_parsed : Book → Host → List ℕ → Parsed → Answer → Book
-enter_parsed b h m Malformed a = b
-enter_parsed b h m (Is q) a = accept b h m q a
+enter_parsed b h m None a = b
+enter_parsed b h m (Some q) a = accept b h m q a
 
 abbrev pub enter_request : Book → Host → List ℕ → Answer → Book
 enter_request b h m Done = enter_parsed b h m (parse m) Done

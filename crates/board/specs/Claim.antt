@@ -20,9 +20,8 @@ use Rattle.frame.specs.declared.Fault.{Fault}
 use Rattle.wire.specs.declared.Refusal.{Refusal}
 use Rattle.wire.specs.declared.Refusal.TheVariants as refusal
 use Rattle.wire.specs.declared.Request.TheVariants.{Put, Delete, Commit, Abort, Read, Log, Convert}
-use Rattle.wire.specs.declared.Parsed.{Parsed}
-use Rattle.wire.specs.declared.Parsed.TheVariants.{Is, Malformed}
-use Rattle.wire.specs.Message.{parse, page_len}
+use Rattle.wire.specs.Message.{Parsed, parse, page_len}
+use Rattle.std.specs.Prelude.{Some, None}
 use Rattle.board.specs.declared.Phase.{Phase}
 use Rattle.board.specs.declared.Phase.TheVariants.{Unmounted, Idle, Busy}
 use Rattle.board.specs.declared.Record.{Record}
@@ -47,14 +46,14 @@ tracked u t = record { unfinished = u; tight = t }
 
 -- after an accepted request, in blocks of s bytes
 abbrev pub track_parsed : ℕ → Track → Book → Parsed → Track
-track_parsed s u b Malformed = u
-track_parsed s u b (Is (Put i)) = u
-track_parsed s u b (Is (Delete i)) = u
-track_parsed s u b (Is Commit) = u
-track_parsed s u b (Is Abort) = u
-track_parsed s u b (Is (Read i)) = u
-track_parsed s u b (Is (Log p)) = u
-track_parsed s u b (Is Convert) = tracked u.unfinished (ltb s (used_by edition.Second b.objects + 22))
+track_parsed s u b None = u
+track_parsed s u b (Some (Put i)) = u
+track_parsed s u b (Some (Delete i)) = u
+track_parsed s u b (Some Commit) = u
+track_parsed s u b (Some Abort) = u
+track_parsed s u b (Some (Read i)) = u
+track_parsed s u b (Some (Log p)) = u
+track_parsed s u b (Some Convert) = tracked u.unfinished (ltb s (used_by edition.Second b.objects + 22))
 
 abbrev pub track_request : ℕ → Track → Book → List ℕ → Answer → Track
 track_request s u b m Done = track_parsed s u b (parse m)
@@ -146,14 +145,14 @@ pub record ConvertSays (o : Out) (b : Book) : Type 0 where
 -- "A read that no earlier check refuses answers 0 exactly when the book holds its object, and its stretch is then that value byte
 -- for byte; otherwise it answers 8." On an idle record the earlier checks are 10 and 1 alone: 4 and 11 are ruled out below.
 abbrev pub RequestSays : Record → Parsed → List ℕ → Out → Book → Type 0
-RequestSays r Malformed reply o b = o.answer ≡ Refused refusal.Malformed
-RequestSays r (Is (Put i)) reply o b = Unit {0}
-RequestSays r (Is (Delete i)) reply o b = Unit {0}
-RequestSays r (Is Commit) reply o b = Unit {0}
-RequestSays r (Is Abort) reply o b = Unit {0}
-RequestSays r (Is (Read i)) reply o b = ReadSays o (lookup i b.objects)
-RequestSays r (Is (Log p)) reply o b = LogSays r o reply b.objects
-RequestSays r (Is Convert) reply o b = ConvertSays o b
+RequestSays r None reply o b = o.answer ≡ Refused refusal.Malformed
+RequestSays r (Some (Put i)) reply o b = Unit {0}
+RequestSays r (Some (Delete i)) reply o b = Unit {0}
+RequestSays r (Some Commit) reply o b = Unit {0}
+RequestSays r (Some Abort) reply o b = Unit {0}
+RequestSays r (Some (Read i)) reply o b = ReadSays o (lookup i b.objects)
+RequestSays r (Some (Log p)) reply o b = LogSays r o reply b.objects
+RequestSays r (Some Convert) reply o b = ConvertSays o b
 
 -- ---- availability
 

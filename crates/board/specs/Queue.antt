@@ -1,5 +1,5 @@
 -- Queue requests, document 01, "What hosts send" and "When the queue says no".
-use Rattle.std.specs.Prelude.{List, [], ◌∷◌, ◌++◌, Bool, true, false, ◌&&◌, ◌||◌, cond, ℕ, ◌+◌, ◌*◌, eqb, ltb, leb, length, get_or}
+use Rattle.std.specs.Prelude.{List, [], ◌∷◌, ◌++◌, Bool, true, false, ◌&&◌, ◌||◌, cond, ℕ, ◌+◌, ◌*◌, eqb, ltb, leb, length, get_or, Some, None}
 use Rattle.std.proofs.Math.Option.{Option, none, some}
 use Rattle.flash.specs.Bytes.{all_ff, same_bytes_of}
 use Rattle.flash.specs.Flash.{block_numbers, block, size_of}
@@ -20,9 +20,7 @@ use Rattle.wire.specs.declared.Page.{Page}
 use Rattle.wire.specs.declared.Page.TheVariants.{Summary}
 use Rattle.wire.specs.declared.Request.{Request}
 use Rattle.wire.specs.declared.Request.TheVariants.{Put, Delete, Commit, Abort, Read, Log, Convert}
-use Rattle.wire.specs.declared.Parsed.{Parsed}
-use Rattle.wire.specs.declared.Parsed.TheVariants.{Is, Malformed}
-use Rattle.wire.specs.Message.{parse, of_read_kind, id_in, value_in_of, page_len, log_page, with_page}
+use Rattle.wire.specs.Message.{Parsed, parse, of_read_kind, id_in, value_in_of, page_len, log_page, with_page}
 use Rattle.board.specs.declared.Phase.{Phase}
 use Rattle.board.specs.declared.Phase.TheVariants.{Unmounted, Idle, Busy}
 use Rattle.board.specs.declared.Rest.{Rest}
@@ -220,8 +218,8 @@ serve a x Convert = serve_convert a x
 
 -- 1, after 11
 abbrev pub serve_parsed : Asking → Journal → Parsed → Out
-serve_parsed a x Malformed = refuse_to a refusal.Malformed
-serve_parsed a x (Is q) = serve a x q
+serve_parsed a x None = refuse_to a refusal.Malformed
+serve_parsed a x (Some q) = serve a x q
 
 -- 11
 abbrev pub serve_held : Asking → Option Journal → Out
@@ -249,8 +247,8 @@ read_at a i =
     cond (same_shape a.blocks (length a.image) a.board) (read_place a i (get_or a.board.places i.0 0)) (refuse_to a refusal.Stale)
 
 abbrev pub read_parsed : Asking → Parsed → Out
-read_parsed a Malformed = refuse_to a refusal.Malformed
-read_parsed a (Is q) = read_at a (id_in a.message)
+read_parsed a None = refuse_to a refusal.Malformed
+read_parsed a (Some q) = read_at a (id_in a.message)
 
 -- "all others still check all of 11"
 abbrev pub request_by : Asking → Bool → Out

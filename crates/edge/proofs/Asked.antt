@@ -23,9 +23,8 @@ use Rattle.wire.specs.declared.Answer.TheVariants.{Done, More}
 use Rattle.wire.specs.declared.Page.TheVariants.{Summary}
 use Rattle.wire.specs.declared.Request.{Request}
 use Rattle.wire.specs.declared.Request.TheVariants.{Put, Delete, Commit, Abort, Read, Log, Convert}
-use Rattle.wire.specs.declared.Parsed.{Parsed}
-use Rattle.wire.specs.declared.Parsed.TheVariants.{Is, Malformed}
-use Rattle.wire.specs.Message.{parse, value_in_of, page_len, of_read_kind, id_in}
+use Rattle.wire.specs.Message.{Parsed, parse, value_in_of, page_len, of_read_kind, id_in}
+use Rattle.std.specs.Prelude.{Some, None}
 use Rattle.wire.specs.Sentences.{Means, MessagesExact, ReadKindExact}
 use Rattle.wire.proofs.Sentences.{messages_exact, read-kind-exact, read_asked}
 use Rattle.board.proofs.Reading.{no_read}
@@ -46,26 +45,26 @@ use Rattle.edge.proofs.Arrays.{Short, buffer-sized, Plain, Leaves, begun}
 
 -- a read, or a message that is no request
 abbrev pub AsksRead : Parsed → Type 0
-AsksRead Malformed = Unit {0}
-AsksRead (Is (Put i)) = ⊥
-AsksRead (Is (Delete i)) = ⊥
-AsksRead (Is Commit) = ⊥
-AsksRead (Is Abort) = ⊥
-AsksRead (Is (Read i)) = Unit {0}
-AsksRead (Is (Log p)) = ⊥
-AsksRead (Is Convert) = ⊥
+AsksRead None = Unit {0}
+AsksRead (Some (Put i)) = ⊥
+AsksRead (Some (Delete i)) = ⊥
+AsksRead (Some Commit) = ⊥
+AsksRead (Some Abort) = ⊥
+AsksRead (Some (Read i)) = Unit {0}
+AsksRead (Some (Log p)) = ⊥
+AsksRead (Some Convert) = ⊥
 
-asks_read : (m : List ℕ) → of_read_kind m ≡ true → (q : Request) → parse m ≡ Is q → parse m ≡ Is (Read (id_in m))
+asks_read : (m : List ℕ) → of_read_kind m ≡ true → (q : Request) → parse m ≡ Some q → parse m ≡ Some (Read (id_in m))
 unfolding MessagesExact ReadKindExact
-asks_read m k q e = e ∙ ap Is (read_asked m q ((messages_exact m q).0 e) ((read-kind-exact m).0 k))
+asks_read m k q e = e ∙ ap Some (read_asked m q ((messages_exact m q).0 e) ((read-kind-exact m).0 k))
 
 pub reads_only : (m : List ℕ) → AsksRead (parse (read_as_of m))
 unfolding parse
 reads_only m = on_test (of_read_kind m) (λ k. rw k (by (parse m) refl k)) (λ k. rw k tt)
   where
     by : (p : Parsed) → parse m ≡ p → of_read_kind m ≡ true → AsksRead (parse m)
-    by Malformed e k = rw e tt
-    by (Is q) e k = subst AsksRead (sym (asks_read m k q e)) tt
+    by None e k = rw e tt
+    by (Some q) e k = subst AsksRead (sym (asks_read m k q e)) tt
 
 -- ---- what is served
 
@@ -94,7 +93,7 @@ module _ (a : Asking) (s : Sized a.board) where
   pub record Serves (o : Out) : Type 0 where
     pub leaves : Leaves o
     pub done : o.answer ≡ Done → o.board ≡ a.board
-    pub place : ((i : ObjectId) → parse a.message ≡ Is (Read i) → ⊥) → o.stretch ≡ no_stretch
+    pub place : ((i : ObjectId) → parse a.message ≡ Some (Read i) → ⊥) → o.stretch ≡ no_stretch
     pub read : AsksRead (parse a.message) → (o.board ≡ a.board) × (o.reply ≡ a.reply)
 
   kept : (w : Answer) → Plain w → Serves (out w a.image a.board a.reply)
@@ -189,7 +188,7 @@ module _ (a : Asking) (s : Sized a.board) where
           (λ t. subst Serves (sym (outcome.convert_goes a x p t)) (converted not x x.edition))
 
   -- a put's value is at most the longest
-  served : of_read_kind a.message ≡ false → (x : Journal) (q : Request) → parse a.message ≡ Is q → Means a.message q → Serves (serve a x q)
+  served : of_read_kind a.message ≡ false → (x : Journal) (q : Request) → parse a.message ≡ Some q → Means a.message q → Serves (serve a x q)
   served k x (Put i) z w =
       subst Serves (sym (outcome.serve_put a x i))
       (changed (subst AsksRead z) x (put i (value_in_of a.message))
@@ -205,12 +204,12 @@ module _ (a : Asking) (s : Sized a.board) where
       (record { leaves = (s, tt); done = λ _. refl; place = λ _. refl; read = λ y. absurd (subst AsksRead z y) }))
   served k x Convert z w = subst Serves (sym (outcome.serve-convert a x)) (moved (subst AsksRead z) x)
 
-  means : (q : Request) → parse a.message ≡ Is q → Means a.message q
+  means : (q : Request) → parse a.message ≡ Some q → Means a.message q
   unfolding MessagesExact
   means q = (messages_exact a.message q).0
 
   -- a read by its place
-  placed : (i : ObjectId) → parse a.message ≡ Is (Read i) → outcome.ReadCase a i → Serves (read_at a i)
+  placed : (i : ObjectId) → parse a.message ≡ Some (Read i) → outcome.ReadCase a i → Serves (read_at a i)
   placed i w (outcome.misshapen t e) = subst Serves (sym e) (kept _ tt)
   placed i w (outcome.absent t z e) = subst Serves (sym e) (kept _ tt)
   placed i w (outcome.lost t z v e) = subst Serves (sym e) (kept _ tt)
@@ -221,15 +220,15 @@ module _ (a : Asking) (s : Sized a.board) where
   asked ok e = by a.board.phase refl
     where
       reading : of_read_kind a.message ≡ true → a.board.phase ≡ Idle → (p : Parsed) → parse a.message ≡ p → Serves (request_on a)
-      reading k i Malformed z = subst Serves (sym (outcome.read_malformed a ok e k i z)) (kept _ tt)
-      reading k i (Is q) z =
+      reading k i None z = subst Serves (sym (outcome.read_malformed a ok e k i z)) (kept _ tt)
+      reading k i (Some q) z =
           subst Serves (sym (outcome.read_placed a ok e k i q z))
           (placed (id_in a.message) (asks_read a.message k q z) (outcome.read_case a (id_in a.message)))
 
       of : of_read_kind a.message ≡ false → (x : Journal) → a.board.phase ≡ Idle → held_for a ≡ some x → (p : Parsed) → parse a.message ≡ p
           → Serves (request_on a)
-      of k x i y Malformed z = subst Serves (sym (outcome.request_malformed a ok e k i x y z)) (kept _ tt)
-      of k x i y (Is q) z = subst Serves (sym (outcome.request_served a ok e k i x q y z)) (served k x q z (means q z))
+      of k x i y None z = subst Serves (sym (outcome.request_malformed a ok e k i x y z)) (kept _ tt)
+      of k x i y (Some q) z = subst Serves (sym (outcome.request_served a ok e k i x q y z)) (served k x q z (means q z))
 
       in_idle : of_read_kind a.message ≡ false → a.board.phase ≡ Idle → (o : Option Journal) → held_for a ≡ o → Serves (request_on a)
       in_idle k i none y = subst Serves (sym (outcome.request_stale a ok e k i y)) (kept _ tt)

@@ -18,11 +18,10 @@ use Rattle.frame.specs.Reader.{fault}
 use Rattle.wire.specs.declared.Answer.{Answer}
 use Rattle.wire.specs.declared.Answer.TheVariants.{Done, More, Refused}
 use Rattle.wire.specs.declared.Refusal.TheVariants as refusal
-use Rattle.wire.specs.declared.Parsed.{Parsed}
-use Rattle.wire.specs.declared.Parsed.TheVariants.{Is, Malformed}
+use Rattle.wire.specs.Message.{Parsed, parse, of_read_kind, id_in}
+use Rattle.std.specs.Prelude.{Some, None}
 use Rattle.wire.specs.declared.Request.TheVariants.{Read}
 use Rattle.wire.specs.Answer.{edge_number, refused_number, field_number, spot_of}
-use Rattle.wire.specs.Message.{parse, of_read_kind, id_in}
 use Rattle.board.specs.Table.{place_for}
 use Rattle.board.specs.declared.Phase.{Phase}
 use Rattle.board.specs.declared.Phase.TheVariants.{Unmounted, Idle, Busy}
@@ -141,8 +140,8 @@ module _ (N : ℕ) (img : List ℕ) (r : Record) (h : Host) (m : List ℕ) (k : 
   same_asked a e = by r.phase refl
     where
       of : r.phase ≡ Idle → (x : Parsed) → parse m ≡ x → Same
-      of i Malformed z = both (outcome.read_malformed c a e k i z) (outcome.read_malformed d a e k i z) refl
-      of i (Is s) z = both (outcome.read_placed c a e k i s z) (outcome.read_placed d a e k i s z) (placed (id_in m) (outcome.read_case c (id_in m)))
+      of i None z = both (outcome.read_malformed c a e k i z) (outcome.read_malformed d a e k i z) refl
+      of i (Some s) z = both (outcome.read_placed c a e k i s z) (outcome.read_placed d a e k i s z) (placed (id_in m) (outcome.read_case c (id_in m)))
 
       by : (x : Phase) → r.phase ≡ x → Same
       by Unmounted i = both (outcome.request-in c a e i) (outcome.request-in d a e i) refl
@@ -161,7 +160,7 @@ module _ (N : ℕ) (img : List ℕ) (r : Record) (s : Sized r) (h : Host) (m rep
   abbrev read_by : Bool → Stretch
   read_by b = (request_on (asking N img r h (cond b m no_id) [])).stretch
 
-  no-id : (i : ObjectId) → parse no_id ≡ Is (Read i) → ⊥
+  no-id : (i : ObjectId) → parse no_id ≡ Some (Read i) → ⊥
   unfolding parse
   no-id i e = let z : ◌≡◌ {A = ℕ} 0 1 = cc in absurd (omega arith)
 

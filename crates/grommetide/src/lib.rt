@@ -17,6 +17,7 @@ use job::records;
 use lent::RECORD_SIZE;
 pub use next::grommetide_next;
 pub use steps::{grommetide_made, grommetide_run, grommetide_step};
+use wire::Answer;
 
 #[unsafe(no_mangle)]
 pub extern "C" fn grommetide_record_size() -> usize
@@ -133,8 +134,11 @@ pub extern "C" fn grommetide_read(
     let rest = unpack::rest_of(board);
     let place = unpack::place_of(board, wire::id_in(message));
     let found = queue::find(image, blocks, phase, rest, place, Host(host), message);
-    *at = found.at;
-    *len = found.size;
-    let answer = found.answer;
-    wire::number(answer)
+    let stretch = found.unwrap_or_default();
+    *at = stretch.at;
+    *len = stretch.size;
+    match found {
+        Ok(_) => wire::number(Answer::Done),
+        Err(why) => u8::from(why),
+    }
 }

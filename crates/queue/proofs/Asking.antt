@@ -8,6 +8,8 @@ use native.Mathlib.Omega.{arith}
 use lib.Dec.{eqb, leb}
 use lib.ListN.{length}
 use borrow.Author.Tests.{ne_eqb}
+use Rattle.std.specs.Prelude.{⊤, Some, None, Result, Ok, Err, IsErrAnd, ok_or}
+use Rattle.std.proofs.lemmas.Result.{err_from_is_err_and}
 use Rattle.flash.specs.Bytes.{Bytes, same_bytes_of}
 use Rattle.flash.specs.Flash.{block, size_of}
 use Rattle.flash.proofs.Cases.{on_test, and_no-left}
@@ -23,6 +25,8 @@ use Rattle.journal.proofs.Blocks.{Okay}
 use Rattle.journal.proofs.States.{Contents, valid_inv}
 use Rattle.wire.specs.declared.Refusal.{Refusal}
 use Rattle.wire.specs.declared.Refusal.TheVariants as refusal
+use Rattle.wire.specs.declared.Request.{Request}
+use Rattle.wire.specs.Message.{Parsed}
 use Rattle.board.specs.declared.Phase.{Phase}
 use Rattle.board.specs.declared.Phase.TheVariants.{Unmounted, Idle, Busy}
 use Rattle.board.specs.declared.Record.{Record}
@@ -30,13 +34,22 @@ use Rattle.board.specs.Record.{allowed}
 use Rattle.board.specs.Mount.{end_of, counts_of}
 use Rattle.board.specs.Queue.{same_image, held, held_by_of, held_in_of, held_if, fits_record, request_on, Asking, refuse_to}
 use Rattle.board.proofs.Outcomes.{request_length, request_host, request-in}
-use Rattle.queue.specs.declared.gate.Gate.TheVariants as gate
 use Rattle.queue.specs.Calls.{gate_in, gate_of, as_recorded}
 use Rattle.looks.proofs.Images.{block_fits}
 use Rattle.queue.proofs.Images.{same_inside}
 use Rattle.looks.proofs.Transfers.{cut_not}
 use Rattle.serving.specs.Calls.{open_in, claimed_in}
 use Rattle.serving.proofs.Rooms.{claimed_is, open_is}
+
+-- ---- refusals that a `?` passes on
+
+pub passed_on : {T : Type 0} (r : Result T Refusal) (why : Refusal) → IsErrAnd r (λ y. y ≡ why) → r ≡ Err why
+passed_on r why e = let p = err_from_is_err_and r e in p.1 ∙ ap Err p.2
+
+pub malformed_is : (o : Parsed) (why : Refusal) → ◌≡◌ {A = Result Request Refusal} (Err why) (ok_or o refusal.Malformed)
+    → (o ≡ None) × (why ≡ refusal.Malformed)
+malformed_is None why e = (refl, cc)
+malformed_is (Some q) why e = let z : ◌≡◌ {A = ℕ} 0 1 = cc in absurd (omega arith)
 
 -- ---- the gate
 
@@ -46,34 +59,34 @@ pub record Passed (N n : ℕ) (p : Phase) (h : Host) : Type 0 where
   pub host : leb h.0 host_max ≡ true
   pub idle : p ≡ Idle
 
-open_not : (why : Refusal) → gate.Shut why ≡ gate.Open → ⊥
-open_not why e = let z : ◌≡◌ {A = ℕ} 0 1 = cc in omega arith
+shut_not : {why : Refusal} {u : ⊤} → ◌≡◌ {A = Result ⊤ Refusal} (Err why) (Ok u) → ⊥
+shut_not e = let z : ◌≡◌ {A = ℕ} 0 1 = cc in omega arith
 
-phase_open : (p : Phase) → gate_in p ≡ gate.Open → p ≡ Idle
-phase_open (Busy s) e = absurd (open_not refusal.Busy e)
-phase_open Unmounted e = absurd (open_not refusal.NoStore e)
-phase_open Idle e = refl
+phase_open : (p : Phase) (u : ⊤) → gate_in p ≡ Ok u → p ≡ Idle
+phase_open (Busy s) u e = absurd (shut_not e)
+phase_open Unmounted u e = absurd (shut_not e)
+phase_open Idle u e = refl
 
-pub passed : (N n : ℕ) (p : Phase) (h : Host) → gate_of N n p h ≡ gate.Open → Passed N n p h
+pub passed : (N n : ℕ) (p : Phase) (h : Host) (u : ⊤) → gate_of N n p h ≡ Ok u → Passed N n p h
 unfolding gate_of
-passed N n p h e =
+passed N n p h u e =
     on_test (allowed N n)
     (λ a. on_test (leb h.0 host_max)
-    (λ b. record { ok = a; host = b; idle = phase_open p (rw (a, b, gate_of) at e) })
-    (λ b. absurd (open_not refusal.HostRange (rw (a, b, gate_of) at e))))
-    (λ a. absurd (open_not refusal.ImageLength (rw (a, gate_of) at e)))
+    (λ b. record { ok = a; host = b; idle = phase_open p u (rw (a, b, gate_of) at e) })
+    (λ b. absurd (shut_not (rw (a, b, gate_of) at e))))
+    (λ a. absurd (shut_not (rw (a, gate_of) at e)))
 
-same-why : (a why : Refusal) → gate.Shut a ≡ gate.Shut why → a ≡ why
+same-why : (a why : Refusal) → ◌≡◌ {A = Result ⊤ Refusal} (Err a) (Err why) → a ≡ why
 same-why a why e = cc
 
 module _ (a : Asking) (why : Refusal) where
   phase_shut : (p : Phase) → a.board.phase ≡ p → allowed a.blocks (length a.image) ≡ true → leb a.host.0 host_max ≡ true
-      → gate_in p ≡ gate.Shut why → request_on a ≡ refuse_to a why
+      → gate_in p ≡ Err why → request_on a ≡ refuse_to a why
   phase_shut (Busy s) i t b e = rw (← same-why refusal.Busy why e) (request-in a t b i)
   phase_shut Unmounted i t b e = rw (← same-why refusal.NoStore why e) (request-in a t b i)
   phase_shut Idle i t b e = let z : ◌≡◌ {A = ℕ} 0 1 = cc in absurd (omega arith)
 
-  pub shut : gate_of a.blocks (length a.image) a.board.phase a.host ≡ gate.Shut why → request_on a ≡ refuse_to a why
+  pub shut : gate_of a.blocks (length a.image) a.board.phase a.host ≡ Err why → request_on a ≡ refuse_to a why
   unfolding gate_of
   shut e =
       on_test (allowed a.blocks (length a.image))
@@ -143,6 +156,11 @@ pub record Looked (N : ℕ) (img : List ℕ) (r : Record) (size : ℕ) (b : List
   pub block_is : b ≡ block size r.rest.block img
   pub survey : s ≡ survey_of (state_of b)
   pub places : t ≡ places_in (state_of b)
+
+pub looked : {N : ℕ} {img : List ℕ} {r : Record} {size : ℕ} {b : List ℕ} {s : Survey} {t : List ℕ} → Bytes img → allowed N (length img) ≡ true
+    → same_image N img r ≡ true → size ≡ size_of N img → b ≡ block size r.rest.block img
+    → (s ≡ survey_of (state_of b)) × (t ≡ places_in (state_of b)) → Looked N img r size b s t
+looked y o e n h (u, v) = record { bytes = y; ok = o; same = e; sized = n; block_is = h; survey = u; places = v }
 
 module _ {N : ℕ} {img : List ℕ} {r : Record} {size : ℕ} {b : List ℕ} {s : Survey} {t : List ℕ} (l : Looked N img r size b s t) where
   abbrev current : List ℕ

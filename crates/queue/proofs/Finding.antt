@@ -15,10 +15,10 @@ use Rattle.flash.proofs.Cases.{on_test}
 use Rattle.frame.specs.declared.Edition.{Edition}
 use Rattle.frame.specs.declared.Edition.TheVariants as edition
 use Rattle.frame.specs.declared.ObjectId.{ObjectId}
-use Rattle.frame.specs.Frame.{Change, put, delete, Frame, change, commit, abort}
+use Rattle.frame.specs.Frame.{edition_by, Change, put, delete, Frame, change, commit, abort}
 use Rattle.frame.specs.Reader.{read_frame}
 use Rattle.frame.proofs.Exact.{read-blank}
-use Rattle.std.specs.Prelude.{Some, None}
+use Rattle.std.specs.Prelude.{Some, None, Result, Ok, Err, IfOk}
 use Rattle.fetch.specs.declared.Found.{Found}
 use Rattle.journal.specs.Block.{Journal, last_time}
 use Rattle.journal.specs.Replay.{Entry, is_open_of}
@@ -26,15 +26,14 @@ use Rattle.journal.specs.Room.{used, no_room_of, host_full}
 use Rattle.journal.specs.Index.{Value, value_read, value_at}
 use Rattle.fetch.specs.Fetch.{found_of}
 use Rattle.fetch.proofs.Fetching.{in_block, found_at}
+use Rattle.wire.specs.declared.Answer.{Answer}
 use Rattle.wire.specs.declared.Refusal.{Refusal}
 use Rattle.wire.specs.declared.Refusal.TheVariants as refusal
 use Rattle.wire.specs.declared.Page.{Page}
 use Rattle.wire.specs.declared.Page.TheVariants.{Summary}
 use Rattle.wire.specs.declared.Request.{Request}
 use Rattle.wire.specs.declared.Request.TheVariants.{Put, Delete, Commit, Abort, Read, Log, Convert}
-use Rattle.wire.specs.declared.Parsed.{Parsed}
-use Rattle.wire.specs.declared.Parsed.TheVariants.{Is, Malformed}
-use Rattle.wire.specs.Message.{parse, id_in, of_read_kind, value_in_of, page_len}
+use Rattle.wire.specs.Message.{Parsed, parse, id_in, of_read_kind, value_in_of, page_len}
 use Rattle.board.specs.Record.{allowed, Stretch, no_stretch, Out}
 use Rattle.board.specs.Step.{same_shape}
 use Rattle.board.specs.Mount.{replay_of}
@@ -42,10 +41,13 @@ use Rattle.board.specs.Queue.{append, serve_change, serve_end, convert, convert_
 use Rattle.board.specs.Queue.{read_found, value_for, read_place, read_at, read_parsed, request_on, Asking, size_for, held_for, moves_for, refuse_to, done_at}
 use Rattle.board.proofs.Images.{Sized, sized_of, sized-block}
 use Rattle.board.proofs.Outcomes.{request_held, request_read, read_malformed, read_misshapen, read_shaped, read_absent, read_there}
+use Rattle.board.specs.declared.Rest.{Rest}
+use Rattle.board.specs.declared.Phase.TheVariants.{Idle}
 use Rattle.job.specs.declared.records.Stepped.{Stepped}
+use Rattle.job.specs.Code.{at_rest_of}
 use Rattle.looks.proofs.Images.{block_length}
-use Rattle.queue.specs.declared.reads.Located.{Located}
-use Rattle.queue.specs.Calls.{place_in, nothing, located_at, located_in, heard_as, heard_in, answering, read_as_of, telling, Finds}
+use Rattle.queue.specs.declared.reads as located
+use Rattle.queue.specs.Calls.{place_in, told, stretch_of, located_at, located_in, heard_as, heard_in, answering, read_as_of, telling, Finds}
 use Rattle.queue.proofs.Asking.{Passed}
 use Rattle.queue.proofs.Handing.{no_read}
 use Rattle.serving.specs.Calls.{Asks}
@@ -53,32 +55,40 @@ use Rattle.serving.proofs.Answering.{NoRead}
 
 -- ---- one frame
 
-abbrev pub located_of : Out → Located
-located_of o = record { answer = o.answer; at = o.stretch.at; size = o.stretch.size }
+-- what the code locates, as a refusal or a stretch
+abbrev pub Located : Type 0
+Located = Result located.Stretch.Stretch Refusal
+
+-- its answer and its stretch; and a request's
+abbrev shown_of : Located → Answer × ℕ × ℕ
+shown_of l = (told l, (stretch_of l).at, (stretch_of l).size)
+
+abbrev shown_by : Out → Answer × ℕ × ℕ
+shown_by o = (o.answer, o.stretch.at, o.stretch.size)
 
 module _ (a : Asking) where
-  located-at : (o : Option Value) → located_at (a.board.rest.block * size_for a) (found_of o) ≡ located_of (read_found a o)
+  located-at : (o : Option Value) → shown_of (located_at (a.board.rest.block * size_for a) (found_of o)) ≡ shown_by (read_found a o)
   located-at none = refl
   located-at (some x) = refl
 
   located_is : (i : ObjectId) (p : ℕ) → p ≡ get_or a.board.places i.0 0
-      → located_in a.blocks a.image a.board.rest p i ≡ located_of (read_at a i)
+      → shown_of (located_in a.blocks a.image a.board.rest p i) ≡ shown_by (read_at a i)
   unfolding located_in
   located_is i p e =
       on_test (same_shape a.blocks (length a.image) a.board)
       (λ t. on_test (eqb p 0)
-      (λ z. rw (t, z, located_in) (sym (ap located_of (read_shaped a i t ∙ ap (read_place a i) (sym e) ∙ read_absent a i p z))))
+      (λ z. rw (t, z, located_in) (sym (ap shown_by (read_shaped a i t ∙ ap (read_place a i) (sym e) ∙ read_absent a i p z))))
       (λ z. rw (t, z, located_in)
-      (located-at (value_for a i p) ∙ sym (ap located_of (read_shaped a i t ∙ ap (read_place a i) (sym e) ∙ read_there a i p z)))))
-      (λ t. rw (t, located_in) (sym (ap located_of (read_misshapen a i t))))
+      (located-at (value_for a i p) ∙ sym (ap shown_by (read_shaped a i t ∙ ap (read_place a i) (sym e) ∙ read_there a i p z)))))
+      (λ t. rw (t, located_in) (sym (ap shown_by (read_misshapen a i t))))
 
   heard_is : (p : ℕ) → p ≡ place_in a.board.places a.message
-      → heard_in a.blocks a.image a.board.rest p a.message ≡ located_of (read_parsed a (parse a.message))
+      → shown_of (heard_in a.blocks a.image a.board.rest p a.message) ≡ shown_by (read_parsed a (parse a.message))
   heard_is p e = go (parse a.message)
     where
-      go : (x : Parsed) → heard_as a.blocks a.image a.board.rest p a.message x ≡ located_of (read_parsed a x)
-      go Malformed = refl
-      go (Is q) = located_is (id_in a.message) p e
+      go : (x : Parsed) → shown_of (heard_as a.blocks a.image a.board.rest p a.message x) ≡ shown_by (read_parsed a x)
+      go None = refl
+      go (Some q) = located_is (id_in a.message) p e
 
   -- it is refused or done, and nothing changes
   read_told : (P : Out → Type 0) → ((why : Refusal) → P (refuse_to a why)) → ((st : Stretch) → P (done_at a a.reply st))
@@ -98,16 +108,22 @@ module _ (a : Asking) where
           (λ t. subst P (sym (read_misshapen a i t)) (f refusal.Stale))
 
       go : (x : Parsed) → P (read_parsed a x)
-      go Malformed = f refusal.Malformed
-      go (Is q) = at (id_in a.message)
+      go None = f refusal.Malformed
+      go (Some q) = at (id_in a.message)
 
   pub read_asks : (p f : List ℕ) (s : Stepped) → Passed a.blocks (length a.image) a.board.phase a.host → of_read_kind a.message ≡ true
       → s ≡ answering a.board.rest (heard_in a.blocks a.image a.board.rest (place_in a.board.places a.message) a.message)
       → let o : Out = request_on a in Asks a.board p f s o × (a.reply ≡ o.reply)
   read_asks p f s g k e =
-      rw (request_read a g.ok g.host k g.idle, e ∙ ap (answering a.board.rest) (heard_is _ refl))
-      (read_told (λ (o : Out). Asks a.board p f (answering a.board.rest (located_of o)) o × (a.reply ≡ o.reply))
+      rw (request_read a g.ok g.host k g.idle, e ∙ ap (λ (y : Answer × ℕ × ℕ). at_rest_of y.0 Idle a.board.rest) (heard_is _ refl))
+      (read_told (λ (o : Out). Asks a.board p f (at_rest_of o.answer Idle a.board.rest) o × (a.reply ≡ o.reply))
       (λ why. (record { answers = refl; gives = refl; rests = refl }, refl)) (λ st. (record { answers = refl; gives = refl; rests = refl }, refl)))
+
+-- a message heard by the place of the id in it
+pub heard_by : (N : ℕ) (img m ps : List ℕ) (z : Rest) {l : Located} {p : ℕ} {i : ObjectId} → l ≡ heard_in N img z p m → p ≡ get_or ps i.0 0 → i ≡ id_in m
+    → l ≡ heard_in N img z (place_in ps m) m
+heard_by N img m ps z h e q =
+    h ∙ ap (λ (p : ℕ). heard_in N img z p m) (e ∙ ap (λ (i : ObjectId). get_or ps i.0 0) q)
 
 -- ---- what is found lies in the image
 
@@ -141,6 +157,13 @@ module _ (N : ℕ) (img : List ℕ) (k : ℕ) (ok : allowed N (length img) ≡ t
       omega (arith, w.inside, x.2, block_length N img k ok h, sized-block k z h, z.short))
       (λ t. let q : None ≡ Some y =
       sym (ap found_of (ap (λ (b : List ℕ). value_at ed b i p) (block_past (ltb-false k N t)) ∙ value_nil ed i p)) ∙ e in cc)
+
+-- by what the code reads
+pub placed_inside : (N : ℕ) (img : List ℕ) (z : Rest) (i : ObjectId) (p : ℕ) {size : ℕ} {b : List ℕ} {ed : Edition} {o : Rattle.std.specs.Prelude.Option Found} (y : Found)
+    → allowed N (length img) ≡ true → size ≡ size_of N img → b ≡ block size z.block img → ed ≡ edition_by z.edition → o ≡ found_of (value_at ed b i p) → o ≡ Some y
+    → (z.block * size + y.at + y.size ≤ length img) × (length img ≤ 65536)
+placed_inside N img z i p y ok e q d f g =
+    rw e (found_inside N img z.block ok (edition_by z.edition) i p y (rw (q, e, d) at (sym f ∙ g)))
 
 -- ---- no other request has a stretch
 
@@ -188,10 +211,14 @@ module _ (a : Asking) (x : Journal) where
 
 -- ---- a read's answer and its stretch
 
+inside-of : (l : Located) (n : ℕ) → IfOk l (λ s. s.at + s.size ≤ n) → (stretch_of l).at + (stretch_of l).size ≤ n
+inside-of (Ok s) n i = i
+inside-of (Err why) n i = omega arith
+
 module _ (a : Asking) (l : Located) where
   pub shut_finds : (why : Refusal) → request_on a ≡ refuse_to a why
       → request_on (telling a (read_as_of a.message)) ≡ refuse_to (telling a (read_as_of a.message)) why
-      → l ≡ nothing why → Finds a l
+      → l ≡ Err why → Finds a l
   shut_finds why e f q =
       rw q (record {
         answers = sym (ap (λ (o : Out). o.answer) f);
@@ -205,15 +232,15 @@ module _ (a : Asking) (l : Located) where
     other_none k = ap (λ (o : Out). o.stretch) (request_held a g.ok g.host k g.idle) ∙ held (held_for a)
       where
         parsed : (x : Journal) (m : Parsed) → parse a.message ≡ m → (serve_parsed a x m).stretch ≡ no_stretch
-        parsed x Malformed e = refl
-        parsed x (Is q) e = served_none a x q (no_read a.message q e k)
+        parsed x None e = refl
+        parsed x (Some q) e = served_none a x q (no_read a.message q e k)
 
         held : (o : Option Journal) → (serve_held a o).stretch ≡ no_stretch
         held none = refl
         held (some x) = parsed x (parse a.message) refl
 
     -- a message of another kind
-    pub other_finds : of_read_kind a.message ≡ false → l ≡ nothing refusal.Malformed → Finds a l
+    pub other_finds : of_read_kind a.message ≡ false → l ≡ Err refusal.Malformed → Finds a l
     unfolding parse
     other_finds k q =
         let m : List ℕ = 4 ∷ 0 ∷ 5 ∷ 1 ∷ [] in
@@ -228,13 +255,13 @@ module _ (a : Asking) (l : Located) where
         })
 
     pub read_finds : (p : ℕ) → p ≡ place_in a.board.places a.message → of_read_kind a.message ≡ true
-        → (l ≡ heard_in a.blocks a.image a.board.rest p a.message) × (l.at + l.size ≤ length a.image) → Finds a l
-    read_finds p e k (q, i) =
+        → l ≡ heard_in a.blocks a.image a.board.rest p a.message → IfOk l (λ s. s.at + s.size ≤ length a.image) → Finds a l
+    read_finds p e k q i =
         let t : read_as_of a.message ≡ a.message = rw k in
-        let w : l ≡ located_of (request_on a) = q ∙ heard_is a p e ∙ sym (ap located_of (request_read a g.ok g.host k g.idle)) in
+        let w : shown_of l ≡ shown_by (request_on a) = ap shown_of q ∙ heard_is a p e ∙ sym (ap shown_by (request_read a g.ok g.host k g.idle)) in
         record {
-          answers = ap (λ (y : Located). y.answer) w ∙ sym (ap (λ (x : List ℕ). (request_on (telling a x)).answer) t);
-          at = ap (λ (y : Located). y.at) w;
-          size = ap (λ (y : Located). y.size) w;
-          inside = i;
+          answers = ap (λ (y : Answer × ℕ × ℕ). y.0) w ∙ sym (ap (λ (x : List ℕ). (request_on (telling a x)).answer) t);
+          at = ap (λ (y : Answer × ℕ × ℕ). y.1) w;
+          size = ap (λ (y : Answer × ℕ × ℕ). y.2) w;
+          inside = inside-of l (length a.image) i;
         }

@@ -1,5 +1,5 @@
 -- A request as a whole: refused, or served by what is held.
-use mathlib.Core.Path.{◌≡◌, refl, sym, ap, ap₂, subst, subst₂, ◌∙◌}
+use mathlib.Core.Path.{◌≡◌, refl, sym, ap, ap₂, subst₂, ◌∙◌}
 use mathlib.Core.List.{List}
 use mathlib.Core.Option.{some}
 use mathlib.Core.Bool.{Bool, true, false}
@@ -10,7 +10,6 @@ use lib.ListN.{length}
 use borrow.Author.Tests.{leb-true}
 use Rattle.flash.specs.Bytes.{Bytes}
 use Rattle.flash.specs.Flash.{block, size_of}
-use Rattle.frame.specs.declared.Host.{Host}
 use Rattle.frame.specs.Frame.{host_max, total}
 use Rattle.survey.specs.declared.Survey.{Survey}
 use Rattle.survey.specs.Survey.{survey_of}
@@ -20,16 +19,15 @@ use Rattle.journal.proofs.Blocks.{layout-size}
 use Rattle.wire.specs.declared.Refusal.{Refusal}
 use Rattle.wire.specs.declared.Request.{Request}
 use Rattle.wire.specs.declared.Request.TheVariants.{Put, Delete, Commit, Abort, Read, Log, Convert}
-use Rattle.wire.specs.declared.Parsed.TheVariants.{Is}
+use Rattle.std.specs.Prelude.{Some}
 use Rattle.wire.specs.Message.{parse, of_read_kind}
 use Rattle.wire.proofs.Parsing.{in_range}
 use Rattle.board.specs.declared.Rest.{Rest}
 use Rattle.board.specs.declared.Record.{Record}
-use Rattle.board.specs.declared.Phase.{Phase}
 use Rattle.board.specs.declared.Phase.TheVariants.{Idle}
-use Rattle.board.specs.Record.{allowed, resting, idle, Out}
+use Rattle.board.specs.Record.{allowed, idle, Out}
 use Rattle.board.specs.Mount.{places_in}
-use Rattle.board.specs.Queue.{same_image, held, held_by_of, held_in_of, fits_record, request_on, Asking, asking, size_for, held_for, refuse_to}
+use Rattle.board.specs.Queue.{same_image, held, held_by_of, held_in_of, fits_record, request_on, Asking, size_for, held_for, refuse_to}
 use Rattle.board.proofs.Images.{sized_of}
 use Rattle.board.proofs.Invariant.{Ready}
 use Rattle.board.proofs.Holding.{held_inv}
@@ -39,7 +37,7 @@ use Rattle.job.specs.declared.Outcome.{Outcome}
 use Rattle.job.specs.declared.records.Stepped.{Stepped}
 use Rattle.job.specs.Code.{outcome}
 use Rattle.looks.proofs.Images.{block_length, block_fits}
-use Rattle.queue.specs.Calls.{left, alike, Asked}
+use Rattle.queue.specs.Calls.{alike}
 use Rattle.serving.specs.Calls.{refused, kept_or, Asks, serve_in, places_by, reply_in, frame_in}
 use Rattle.serving.proofs.Answering.{NoRead, serve_is, reply_is}
 
@@ -47,12 +45,6 @@ use Rattle.serving.proofs.Answering.{NoRead, serve_is, reply_is}
 pub refused_all : (a : Asking) (p f : List ℕ) (why : Refusal) (s : Stepped) → request_on a ≡ refuse_to a why → s ≡ refused why a.board.rest
     → let o : Out = request_on a in Asks a.board p f s o × (a.reply ≡ o.reply)
 refused_all a p f why s e q = rw (e, q) (record { answers = refl; gives = refl; rests = refl }, refl)
-
--- of an idle record
-pub asked-idle : (N : ℕ) (img ps : List ℕ) (z : Rest) (h : Host) (m reply : List ℕ) (p : Phase) (s : Stepped) (t f u : List ℕ) → p ≡ Idle
-    → Asked (asking N img (idle ps z) h m reply) s (left t f u) → Asked (asking N img (resting p ps z) h m reply) s (left t f u)
-asked-idle N img ps z h m reply p s t f u e y =
-    subst (λ (q : Phase). Asked (asking N img (resting q ps z) h m reply) s (left t f u)) (sym e) y
 
 -- a request by value
 pub by_value : {r : Record} {p f reply : List ℕ} {s : Stepped} (x : Outcome) (o : Out)
@@ -76,7 +68,7 @@ held-alike N img r b = go (same_image N img (alike r b))
     go false = refl
 
 -- a message of another kind asks for no read
-pub no_read : (m : List ℕ) (q : Request) → parse m ≡ Is q → of_read_kind m ≡ false → NoRead q
+pub no_read : (m : List ℕ) (q : Request) → parse m ≡ Some q → of_read_kind m ≡ false → NoRead q
 no_read m (Put i) e k = tt
 no_read m (Delete i) e k = tt
 no_read m Commit e k = tt
@@ -119,7 +111,7 @@ module _ (a : Asking) (x : Journal) (y : Bytes a.image) (ok : allowed a.blocks (
       let n : header_len + total x.edition x.frames ≤ length current = omega (arith, layout-size contents.layout) in
       rw (es, eb) (n, (block_fits a.blocks a.image r.rest.block ok there).1)
 
-  module _ (h : leb a.host.0 host_max ≡ true) (k : of_read_kind a.message ≡ false) (p : r.phase ≡ Idle) (q : Request) (w : parse a.message ≡ Is q)
+  module _ (h : leb a.host.0 host_max ≡ true) (k : of_read_kind a.message ≡ false) (p : r.phase ≡ Idle) (q : Request) (w : parse a.message ≡ Some q)
       (s : Survey) (b t : List ℕ) (es : s ≡ survey_of (valid x)) (eb : b ≡ current) (et : t ≡ places_in x) where
     pub served_reply : reply_in (length b) s a.reply q ≡ (request_on a).reply
     served_reply =

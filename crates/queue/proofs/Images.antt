@@ -1,9 +1,8 @@
 -- The record's image.
-use mathlib.Core.Path.{◌≡◌, sym, ap, ap₂, ◌∙◌}
-use mathlib.Core.List.{List}
+use mathlib.Core.Path.{◌≡◌, refl, sym, ap, ◌∙◌}
+use mathlib.Core.List.{List, [], ◌∷◌}
 use mathlib.Core.Bool.{Bool, true, ◌&&◌, ◌||◌}
-use Prim.Native.Nat.{ℕ, suc, ◌+◌, ◌-◌, ◌≤◌, ◌<◌}
-use native.Mathlib.Omega.{arith}
+use Prim.Native.Nat.{ℕ, zero, suc, ◌<◌}
 use native.Mathlib.Numerals.{add-one}
 use lib.Dec.{eqb, ltb}
 use lib.ListN.{length}
@@ -14,25 +13,26 @@ use Rattle.flash.proofs.Cases.{and_left, and_right}
 use Rattle.board.specs.declared.Record.{Record}
 use Rattle.board.specs.Step.{same_shape}
 use Rattle.board.specs.Queue.{others_blank, same_image}
-use Rattle.looks.proofs.Listing.{numbers_next}
+use Rattle.std.specs.List.{list_all, range_with_len}
 
--- ---- the other blocks, one by one
+-- ---- the other blocks
 
 module _ (N k : ℕ) (img : List ℕ) where
-  -- those from number j on
-  abbrev pub blank_from : ℕ → Bool
-  blank_from j = others_blank N k img (numbers_from j (N - j))
+  -- a block that is blank, or passed over
+  abbrev pub passes : ℕ → Bool
+  passes j = eqb k j || all_ff (block (size_of N img) j img)
 
-  pub blank_start : blank_from 0 ≡ others_blank N k img (block_numbers N)
-  blank_start = ap (λ (n : ℕ). others_blank N k img (numbers_from 0 n)) (omega arith)
+  all_pass : (js : List ℕ) → others_blank N k img js ≡ list_all passes js
+  all_pass [] = refl
+  all_pass (j ∷ js) = ap (λ (t : Bool). passes j && t) (all_pass js)
 
-  pub blank_on : (j : ℕ) (t : Bool) → j < N → (eqb k j || all_ff (block (size_of N img) j img)) ≡ t → blank_from j ≡ (t && blank_from (j + 1))
-  blank_on j t h e =
-      ap (others_blank N k img) (numbers_next j N h) ∙ ap₂ (λ (u : Bool) (i : ℕ). u && blank_from i) e (sym (add-one j))
-
-  pub blank_end : (j : ℕ) → N ≤ j → blank_from j ≡ true
+  from : (i n : ℕ) → numbers_from i n ≡ range_with_len i n
   unfolding numbers_from
-  blank_end j h = let e : N - j ≡ 0 = omega arith in ap (λ (n : ℕ). others_blank N k img (numbers_from j n)) e
+  from i zero = refl
+  from i (suc n) = ap (λ (js : List ℕ). i ∷ js) (from (suc i) n ∙ ap (λ (j : ℕ). range_with_len j n) (sym (add-one i)))
+
+  pub blank_is : others_blank N k img (block_numbers N) ≡ list_all passes (range_with_len 0 N)
+  blank_is = all_pass (block_numbers N) ∙ ap (list_all passes) (from 0 N)
 
 -- ---- what an image that is the record's says
 

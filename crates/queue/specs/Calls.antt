@@ -1,5 +1,5 @@
 -- What the requests do, by a survey of the current block and in the code's order of tests. proofs/ ties it to board's definitions.
-use Rattle.std.specs.Prelude.{◌≡◌, List, [], ◌∷◌, Bool, ◌&&◌, cond, ℕ, ◌+◌, ◌*◌, ◌≤◌, eqb, leb, length, get_or, Option, Some, None}
+use Rattle.std.specs.Prelude.{◌≡◌, List, [], ◌∷◌, Bool, ◌&&◌, cond, ℕ, ◌+◌, ◌*◌, ◌≤◌, eqb, leb, length, get_or, Some, None, ⊤, Result, Ok, Err, Option}
 use Rattle.flash.specs.Bytes.{same_bytes_of}
 use Rattle.flash.specs.Flash.{block, size_of}
 use Rattle.frame.specs.declared.Host.{Host}
@@ -9,12 +9,11 @@ use Rattle.survey.specs.declared.Survey.{Survey}
 use Rattle.fetch.specs.declared.Found.{Found}
 use Rattle.journal.specs.Index.{value_at}
 use Rattle.fetch.specs.Fetch.{found_of}
+use Rattle.wire.specs.declared.Answer.{Answer}
 use Rattle.wire.specs.declared.Answer.TheVariants.{Done, Refused}
 use Rattle.wire.specs.declared.Refusal.{Refusal}
 use Rattle.wire.specs.declared.Refusal.TheVariants as refusal
-use Rattle.wire.specs.declared.Parsed.{Parsed}
-use Rattle.wire.specs.declared.Parsed.TheVariants.{Is, Malformed}
-use Rattle.wire.specs.Message.{parse, id_in, of_read_kind}
+use Rattle.wire.specs.Message.{Parsed, parse, id_in, of_read_kind}
 use Rattle.board.specs.declared.Phase.{Phase}
 use Rattle.board.specs.declared.Phase.TheVariants.{Unmounted, Idle, Busy}
 use Rattle.board.specs.declared.Rest.{Rest}
@@ -23,22 +22,20 @@ use Rattle.board.specs.Record.{allowed, Out}
 use Rattle.board.specs.Queue.{Asking, asking, request_on}
 use Rattle.job.specs.declared.records.Stepped.{Stepped}
 use Rattle.job.specs.Code.{at_rest_of, fits}
-use Rattle.queue.specs.declared.reads.Located.{Located}
-use Rattle.queue.specs.declared.gate.Gate.{Gate}
-use Rattle.queue.specs.declared.gate.Gate.TheVariants as gate
+use Rattle.queue.specs.declared.reads.Stretch.{Stretch}
 use Rattle.looks.specs.Surveys.{is_valid}
-use Rattle.serving.specs.Calls.{open_in, claimed_in, Asks}
+use Rattle.serving.specs.Calls.{refused, open_in, claimed_in, Asks}
 
 -- ---- before a request is served
 
-abbrev pub gate_in : Phase → Gate
-gate_in (Busy s) = gate.Shut refusal.Busy
-gate_in Unmounted = gate.Shut refusal.NoStore
-gate_in Idle = gate.Open
+abbrev pub gate_in : Phase → Result ⊤ Refusal
+gate_in (Busy s) = Err refusal.Busy
+gate_in Unmounted = Err refusal.NoStore
+gate_in Idle = Ok tt
 
 -- 4, 10, 5, 2
-unfoldable pub gate_of : ℕ → ℕ → Phase → Host → Gate
-gate_of N n p h = cond (allowed N n) (cond (leb h.0 host_max) (gate_in p) (gate.Shut refusal.HostRange)) (gate.Shut refusal.ImageLength)
+unfoldable pub gate_of : ℕ → ℕ → Phase → Host → Result ⊤ Refusal
+gate_of N n p h = cond (allowed N n) (cond (leb h.0 host_max) (gate_in p) (Err refusal.HostRange)) (Err refusal.ImageLength)
 
 -- the block is as an idle record has it, but for the places
 unfoldable pub as_recorded : ℕ → Rest → Survey → Bool
@@ -79,39 +76,50 @@ asked_of a b = asking a.blocks a.image (alike a.board b) a.host a.message a.repl
 abbrev pub Asked : Asking → Stepped → Left → Type 0
 Asked a s l = (b : Record) → let o : Out = request_on (asked_of a b) in Asks (asked_of a b).board l.places l.frame s o × (l.reply ≡ o.reply)
 
+-- a refusal leaves the record idle, where it stands
+abbrev pub begun_or : Rest → Result Stepped Refusal → Stepped
+begun_or z (Ok s) = s
+begun_or z (Err why) = refused why z
+
 -- ---- a read by its place, document 02, K8
 
 -- the place of the id in a message
 abbrev pub place_in : List ℕ → List ℕ → ℕ
 place_in places m = get_or places (id_in m).0 0
 
-abbrev pub nothing : Refusal → Located
-nothing why = record { answer = Refused why; at = 0; size = 0 }
+-- what a read is answered, and its stretch: an empty one where it is refused
+abbrev pub told : Result Stretch Refusal → Answer
+told (Ok s) = Done
+told (Err why) = Refused why
+
+abbrev pub stretch_of : Result Stretch Refusal → Stretch
+stretch_of (Ok s) = s
+stretch_of (Err why) = record { at = 0; size = 0 }
 
 -- what stands at a place of a block that starts there
-abbrev pub located_at : ℕ → Option Found → Located
-located_at start None = nothing refusal.Stale
-located_at start (Some x) = record { answer = Done; at = start + x.at; size = x.size }
+abbrev pub located_at : ℕ → Option Found → Result Stretch Refusal
+located_at start None = Err refusal.Stale
+located_at start (Some x) = Ok (record { at = start + x.at; size = x.size })
 
 -- 11 by the image's shape, 8 for place 0, then 11 by the frame there
-unfoldable pub located_in : ℕ → List ℕ → Rest → ℕ → ObjectId → Located
+unfoldable pub located_in : ℕ → List ℕ → Rest → ℕ → ObjectId → Result Stretch Refusal
 located_in N img z p i =
     cond (fits N (length img) z)
-    (cond (eqb p 0) (nothing refusal.NoObject)
+    (cond (eqb p 0) (Err refusal.NoObject)
     (located_at (z.block * size_of N img) (found_of (value_at (edition_by z.edition) (block (size_of N img) z.block img) i p))))
-    (nothing refusal.Stale)
+    (Err refusal.Stale)
 
-abbrev pub heard_as : ℕ → List ℕ → Rest → ℕ → List ℕ → Parsed → Located
-heard_as N img z p m Malformed = nothing refusal.Malformed
-heard_as N img z p m (Is q) = located_in N img z p (id_in m)
+abbrev pub heard_as : ℕ → List ℕ → Rest → ℕ → List ℕ → Parsed → Result Stretch Refusal
+heard_as N img z p m None = Err refusal.Malformed
+heard_as N img z p m (Some q) = located_in N img z p (id_in m)
 
 -- 1, then that
-abbrev pub heard_in : ℕ → List ℕ → Rest → ℕ → List ℕ → Located
+abbrev pub heard_in : ℕ → List ℕ → Rest → ℕ → List ℕ → Result Stretch Refusal
 heard_in N img z p m = heard_as N img z p m (parse m)
 
 -- its answer, as of a request
-abbrev pub answering : Rest → Located → Stepped
-answering z l = at_rest_of l.answer Idle z
+abbrev pub answering : Rest → Result Stretch Refusal → Stepped
+answering z l = at_rest_of (told l) Idle z
 
 -- a read without an id, which is malformed
 abbrev pub no_id : List ℕ
@@ -125,8 +133,8 @@ abbrev pub telling : Asking → List ℕ → Asking
 telling a m = asking a.blocks a.image a.board a.host m a.reply
 
 -- the request's stretch, and a read's answer
-pub record Finds (a : Asking) (l : Located) : Type 0 where
-  pub answers : l.answer ≡ (request_on (telling a (read_as_of a.message))).answer
-  pub at : l.at ≡ (request_on a).stretch.at
-  pub size : l.size ≡ (request_on a).stretch.size
-  pub inside : l.at + l.size ≤ length a.image
+pub record Finds (a : Asking) (l : Result Stretch Refusal) : Type 0 where
+  pub answers : told l ≡ (request_on (telling a (read_as_of a.message))).answer
+  pub at : (stretch_of l).at ≡ (request_on a).stretch.at
+  pub size : (stretch_of l).size ≡ (request_on a).stretch.size
+  pub inside : (stretch_of l).at + (stretch_of l).size ≤ length a.image

@@ -15,10 +15,7 @@ use survey::Survey;
 fn passes(image: &[u8], size: usize, number: u8, k: u8) -> bool
     ensures { result ≡ (eqb number k || all_ff (block size k image.now)) }
 {
-    if number == k {
-        return true;
-    }
-    flash::is_blank(flash::block_of(image, size, k))
+    number == k || flash::is_blank(flash::block_of(image, size, k))
 }
 
 // Every block but one is blank.
@@ -26,89 +23,34 @@ fn others_blank(image: &[u8], blocks: u8, number: u8) -> bool
     ensures { result ≡ others_blank blocks number image.now (block_numbers blocks) }
 {
     let size = flash::size_of(blocks, image.len());
-    let mut k = 0;
-    while k < blocks {
-        if !passes(image, size, number, k) {
-            return false;
-        }
-        k += 1;
-    }
-    true
+    (0..blocks).all(|k| passes(image, size, number, k))
 }
 
 // The image has the recorded length and number of blocks, the recorded block is there, and the others are blank.
 pub fn same_image(image: &[u8], blocks: u8, rest: Rest) -> bool
     ensures { result ≡ same_image blocks image.now (idle no_places rest) }
 {
-    if !job::same_shape(image.len(), blocks, rest) {
-        return false;
-    }
-    if blocks <= rest.block {
-        return false;
-    }
-    others_blank(image, blocks, rest.block)
-}
-
-// The same number for each host.
-fn same_counts(counts: [u16; 4], others: [u16; 4]) -> bool
-    ensures { result ≡ same_bytes_of counts others }
-{
-    if counts[0] != others[0] {
-        return false;
-    }
-    if counts[1] != others[1] {
-        return false;
-    }
-    if counts[2] != others[2] {
-        return false;
-    }
-    counts[3] == others[3]
-}
-
-// The same place for each id.
-fn same_places(places: &[u16], others: &[u16]) -> bool
-    ensures { result ≡ same_bytes_of places.now others.now }
-{
-    if places.len() != others.len() {
-        return false;
-    }
-    let mut i = 0;
-    while i < places.len() {
-        if places[i] != others[i] {
-            return false;
-        }
-        i += 1;
-    }
-    true
+    job::same_shape(image.len(), blocks, rest)
+        && rest.block < blocks
+        && others_blank(image, blocks, rest.block)
 }
 
 // The current block is as an idle record has it, but for the places.
+#[tactic(auto, using(crate::proofs::Counts::same_is), unfolding(crate::specs::Calls::as_recorded))]
 fn as_recorded(size: usize, rest: Rest, s: Survey) -> bool
     ensures { result ≡ as_recorded size rest s }
 {
-    let kind = s.kind;
-    if !surveys::is_valid(kind) {
-        return false;
-    }
-    if s.torn != 0 {
-        return false;
-    }
-    let edition = s.edition;
-    if u8::from(edition) != rest.edition {
-        return false;
-    }
-    if s.end != rest.end {
-        return false;
-    }
-    let p = s.pending;
-    let q = rest.pending;
-    if !same_counts(p, q) {
-        return false;
-    }
-    room::claimed(s) + room::end_len(edition) as usize * room::open_hosts(p) <= size
+    surveys::is_valid(s.kind)
+        && s.torn == 0
+        && u8::from(s.edition) == rest.edition
+        && s.end == rest.end
+        && s.pending == rest.pending
+        && room::claimed(s) + room::end_len(s.edition) as usize * room::open_hosts(s.pending)
+            <= size
 }
 
 // The current block and its places are as an idle record has them.
+#[tactic(auto, using(crate::proofs::Counts::same_is))]
 pub fn is_fresh(
     size: usize,
     rest: Rest,
@@ -118,8 +60,5 @@ pub fn is_fresh(
 ) -> bool
     ensures { result ≡ (as_recorded size rest s && same_bytes_of places.now recorded.now) }
 {
-    if !as_recorded(size, rest, s) {
-        return false;
-    }
-    same_places(places, recorded)
+    as_recorded(size, rest, s) && places == recorded
 }

@@ -6,5 +6,5 @@ mod held;
 mod reads;
 mod requests;
 
-pub use reads::{Located, Stretch, find, locate, read};
+pub use reads::{Stretch, find, locate, read};
 pub use requests::{request, request_core};

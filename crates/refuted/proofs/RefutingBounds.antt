@@ -19,7 +19,7 @@ use Rattle.journal.specs.Replay.{insert, remove, lookup, change_all, list_of, wi
 use Rattle.journal.specs.Block.{edition_in, header_fault, block_state, changing}
 use Rattle.journal.specs.Room.{no_room_of, host_full}
 use Rattle.journal.specs.Index.{sited, places_from, since_from, value_at, next_settled, next_pending, next_load_of}
-use Rattle.wire.specs.Message.{parse}
+use Rattle.wire.specs.Message.{parse, Parsed}
 use Rattle.board.specs.Record.{allowed, no_places, no_frame}
 use Rattle.board.specs.Step.{enter_append, enter_drop, enter_copy, enter_open, enter_close, enter_wipe, advance, step_busy, step_on}
 use Rattle.board.specs.Mount.{mount_at, mount_found, mount_on}
@@ -27,8 +27,7 @@ use Rattle.board.specs.Queue.{fits_record, held, append, serve_change, serve_end
 use Rattle.flash.proofs.Cases.{and_left, and_right, clash}
 use Rattle.journal.specs.Block.{Journal, journal}
 use Rattle.wire.specs.declared.Answer.TheVariants.{More}
-use Rattle.wire.specs.declared.Parsed.{Parsed}
-use Rattle.wire.specs.declared.Parsed.TheVariants.{Is, Malformed}
+use Rattle.std.specs.Prelude.{Some, None}
 use Rattle.wire.specs.declared.Request.TheVariants.{Put, Delete, Commit, Abort, Read, Log, Convert}
 use Rattle.wire.specs.Sentences.{Means, MessagesExact}
 use Rattle.wire.proofs.Sentences.{messages_exact}
@@ -54,14 +53,14 @@ use Rattle.refuted.proofs.Refuting.{bytes-all}
 -- ---- runs, tested
 
 abbrev is_convert : Parsed → Bool
-is_convert Malformed = false
-is_convert (Is (Put i)) = false
-is_convert (Is (Delete i)) = false
-is_convert (Is Commit) = false
-is_convert (Is Abort) = false
-is_convert (Is (Read i)) = false
-is_convert (Is (Log p)) = false
-is_convert (Is Convert) = true
+is_convert None = false
+is_convert (Some (Put i)) = false
+is_convert (Some (Delete i)) = false
+is_convert (Some Commit) = false
+is_convert (Some Abort) = false
+is_convert (Some (Read i)) = false
+is_convert (Some (Log p)) = false
+is_convert (Some Convert) = true
 
 -- messages are bytes and no converts
 abbrev messages_in : List Call → Bool
@@ -225,7 +224,7 @@ record Wiped : Type 0 where
   bytes : all_bytes nearly_full ≡ true
   fits : allowed 2 (length nearly_full) ≡ true
   holds : held 2 nearly_full late ≡ some held-there
-  parsed : parse (0x08 ∷ 0x00 ∷ 0x01 ∷ 0x01 ∷ 0x05 ∷ 0x00 ∷ 0x43 ∷ 0x44 ∷ []) ≡ Is (Put (id_of 5))
+  parsed : parse (0x08 ∷ 0x00 ∷ 0x01 ∷ 0x01 ∷ 0x05 ∷ 0x00 ∷ 0x43 ∷ 0x44 ∷ []) ≡ Some (Put (id_of 5))
   answers : (wiping nearly_full late put_cd).answer ≡ More
   others : List Step
   plan : (frame_work 2 nearly_full late held-there frame-put).steps ≡ program 1 8 0xFE ∷ others

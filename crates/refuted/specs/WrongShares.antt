@@ -1,6 +1,6 @@
 -- Wrong stores of document 02, K7: refusal 12 and each host's pending bytes. As in Wrong each differs from the machine in one thing, off the
 -- bench. The runs that tell are in WrongRuns.
-use Rattle.std.specs.Prelude.{List, [], ◌∷◌, ◌++◌, map, Bool, true, false, ◌&&◌, ◌||◌, cond, ℕ, ◌+◌, ◌*◌, ◌/◌, eqb, ltb, leb, length}
+use Rattle.std.specs.Prelude.{List, [], ◌∷◌, ◌++◌, map, Bool, true, false, ◌&&◌, ◌||◌, cond, ℕ, ◌+◌, ◌*◌, ◌/◌, eqb, ltb, leb, length, Some, None}
 use Rattle.std.proofs.Math.Option.{Option, none, some}
 use Rattle.flash.specs.Flash.{block, size_of}
 use Rattle.frame.specs.declared.Edition.{Edition}
@@ -10,11 +10,9 @@ use Rattle.journal.specs.Block.{Journal, BlockState, block_state, edition_of, fr
 use Rattle.journal.specs.Room.{pending_for, pending_of, no_room_of, host_full}
 use Rattle.wire.specs.declared.Refusal.TheVariants as refusal
 use Rattle.wire.specs.declared.Request.TheVariants.{Put, Delete, Commit, Abort, Read, Log, Convert}
-use Rattle.wire.specs.declared.Parsed.{Parsed}
-use Rattle.wire.specs.declared.Parsed.TheVariants.{Is, Malformed}
+use Rattle.wire.specs.Message.{Parsed, parse, value_in_of}
 use Rattle.wire.specs.declared.Answer.TheVariants.{More}
 use Rattle.wire.specs.Answer.{edge_number}
-use Rattle.wire.specs.Message.{parse, value_in_of}
 use Rattle.board.specs.declared.Record.{Record}
 use Rattle.board.specs.Record.{zero_each, counting, Out, out}
 use Rattle.board.specs.Mount.{all_found, Store, stores, newest, replay_of, counts_of}
@@ -32,14 +30,14 @@ abbrev pub is_judged : ℕ → Bool
 is_judged n = eqb n 255 || (eqb n 12 || (eqb n 7 || eqb n 6))
 
 abbrev pub where_change : Serving → Asking → Out → Journal → Parsed → Out
-where_change s a o x (Is (Put i)) = s a x (put i (value_in_of a.message))
-where_change s a o x (Is (Delete i)) = s a x (delete i)
-where_change s a o x (Is Commit) = o
-where_change s a o x (Is Abort) = o
-where_change s a o x (Is (Read i)) = o
-where_change s a o x (Is (Log p)) = o
-where_change s a o x (Is Convert) = o
-where_change s a o x Malformed = o
+where_change s a o x (Some (Put i)) = s a x (put i (value_in_of a.message))
+where_change s a o x (Some (Delete i)) = s a x (delete i)
+where_change s a o x (Some Commit) = o
+where_change s a o x (Some Abort) = o
+where_change s a o x (Some (Read i)) = o
+where_change s a o x (Some (Log p)) = o
+where_change s a o x (Some Convert) = o
+where_change s a o x None = o
 
 abbrev pub where_held : Serving → Asking → Out → Option Journal → Out
 where_held s a o none = o

@@ -1,10 +1,12 @@
 -- A survey's numbers say what the definitions say of the room in a block.
 use mathlib.Core.Path.{◌≡◌, refl, sym, ap, ap₂, ◌∙◌}
 use mathlib.Core.List.{List, [], ◌∷◌, ◌++◌}
-use mathlib.Core.Bool.{◌||◌}
+use mathlib.Core.Bool.{Bool, true, false, ◌||◌}
 use Prim.Native.Nat.{ℕ, ◌+◌, ◌*◌, ◌≤◌}
 use lib.Dec.{eqb, ltb}
-use lib.ListN.{length}
+use native.Mathlib.Omega.{arith}
+use lib.ListN.{length, get_or}
+use Rattle.std.specs.List.{filter}
 use borrow.Author.Tests.{eqb-true, eqb-false}
 use Rattle.flash.proofs.Cases.{on_test}
 use Rattle.frame.specs.declared.Edition.{Edition}
@@ -14,9 +16,9 @@ use Rattle.frame.specs.Frame.{host_of, host_max, Change, change, frame_len, end_
 use Rattle.board.specs.Mount.{replay_of, claimed_of}
 use Rattle.journal.specs.Replay.{Entry, entry, is_open_of}
 use Rattle.journal.specs.Block.{Journal, valid}
-use Rattle.journal.specs.Room.{used, open_hosts, spare, no_room_of, host_full, pending_for, per_host}
+use Rattle.journal.specs.Room.{used, open_hosts, one, spare, no_room_of, host_full, pending_for, per_host}
 use Rattle.survey.specs.Survey.{survey_of}
-use Rattle.journal.proofs.PerHost.{per_at, bytes-own, open_bytes, open_count, claimed-bytes}
+use Rattle.journal.proofs.PerHost.{per_at, per_list, bytes-own, open_bytes, open_count, claimed-bytes}
 use Rattle.journal.proofs.Room.{used-second}
 use Rattle.journal.proofs.Lists.{open_snoc, open_snoc_other}
 use Rattle.journal.proofs.States.{Contents}
@@ -25,6 +27,29 @@ use Rattle.serving.specs.Calls.{open_in, open_with, claimed_in, second_in, no_ro
 -- the four hosts' pending bytes
 abbrev bytes_in : Edition → List Entry → List ℕ
 bytes_in ed es = per_host (λ h. pending_for ed h es)
+
+-- ---- how many pass a test, one by one
+
+counted-one : {A : Type 0} (f : A → Bool) (x : A) (xs : List A) → length (filter f (x ∷ xs)) ≡ one (f x) + length (filter f xs)
+counted-one f x xs = on_test (f x) (λ t. rw t (omega arith)) (λ t. rw t (omega arith))
+
+pub counted-four : {A : Type 0} (f : A → Bool) (a b c d : A) → length (filter f (a ∷ b ∷ c ∷ d ∷ [])) ≡ one (f a) + one (f b) + one (f c) + one (f d)
+counted-four f a b c d =
+    omega (arith, counted-one f a (b ∷ c ∷ d ∷ []), counted-one f b (c ∷ d ∷ []), counted-one f c (d ∷ []), counted-one f d [])
+
+one_most : (b : Bool) → one b ≤ 1
+one_most true = omega arith
+one_most false = omega arith
+
+pub four_most : (a b c d : Bool) → one a + one b + one c + one d ≤ 4
+four_most a b c d = omega (arith, one_most a, one_most b, one_most c, one_most d)
+
+-- the four numbers of a list
+pub open_listed : (p : List ℕ) → length p ≡ 4 → length (filter (ltb 0) p) ≡ open_in p
+unfolding open_in
+open_listed p m =
+    ap (λ (q : List ℕ). length (filter (ltb 0) q)) (per_list p (λ h. get_or p h.0 0) m (λ h l. refl))
+    ∙ counted-four (ltb 0) (get_or p 0 0) (get_or p 1 0) (get_or p 2 0) (get_or p 3 0)
 
 -- ---- all hosts
 

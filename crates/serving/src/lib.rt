@@ -6,7 +6,6 @@ ghost use Rattle.frame.specs.declared.Edition.TheVariants as edition;
 ghost use Rattle.frame.specs.Frame.{value_max};
 ghost use Rattle.frame.specs.Code.{frame_of};
 ghost use Rattle.journal.specs.Block.{block_max};
-ghost use Rattle.wire.specs.declared.Parsed.TheVariants.{Is};
 ghost use Rattle.wire.specs.Message.{parse};
 ghost use Rattle.board.specs.Record.{counting};
 ghost use Rattle.serving.specs.Calls.{done, refused, append_in, change_in, end_in, committed, log_in, convert_in, convert_by};
@@ -15,7 +14,6 @@ ghost use Rattle.serving.specs.Calls.{serve_in, places_by, reply_in, reply_log, 
 pub mod room;
 
 use board::{Job, Phase, Rest};
-use flash::MAX_BLOCKS;
 use frame::{BUFFER_LEN, Edition, Head, Host, ObjectId};
 use job::records;
 use job::records::{LAST_TIME, Stepped};
@@ -24,7 +22,7 @@ use survey::Survey;
 use wire::{Answer, Page, Refusal, Request};
 
 // Nothing began: what is to be answered.
-fn done(rest: Rest) -> Stepped
+pub fn done(rest: Rest) -> Stepped
     ensures { result ≡ done rest }
 {
     records::at_rest(Answer::Done, Phase::Idle, rest)
@@ -40,28 +38,18 @@ pub fn refused(why: Refusal, rest: Rest) -> Stepped
 pub fn place_of(places: &[u16], id: ObjectId) -> u16
     ensures { result ≡ get_or places.now id.0 0 }
 {
-    let i = id.0 as usize;
-    if i < places.len() {
-        return places[i];
-    }
-    0
+    flash::get_or(places, id.0 as usize, 0)
 }
 
 // The same place, with so much pending.
 fn counting(rest: Rest, pending: [u16; 4]) -> Rest
     ensures { result ≡ counting rest pending }
 {
-    Rest {
-        blocks: rest.blocks,
-        last: rest.last,
-        block: rest.block,
-        end: rest.end,
-        pending: pending,
-        edition: rest.edition,
-    }
+    Rest { pending, ..rest }
 }
 
 // A frame of n bytes appended, after a transfer if it goes past the block's end. With it the hosts have so much pending.
+#[tactic(auto, unfolding(crate::specs::Calls::append_in))]
 fn append(size: usize, rest: Rest, s: Survey, n: u8, pending: [u16; 4]) -> Stepped
     ensures { result ≡ append_in size rest s n pending }
 {
@@ -70,19 +58,15 @@ fn append(size: usize, rest: Rest, s: Survey, n: u8, pending: [u16; 4]) -> Stepp
         return refused(Refusal::Worn, rest);
     }
     let since = s.since;
-    let edition = s.edition;
     let job = Job {
-        wipe: [0; MAX_BLOCKS],
-        wipes: 0,
-        moves: moves,
+        moves,
         drops: true,
         target: image::next_block(rest.blocks, rest.block),
         time: surveys::new_time(moves, s.time),
-        since: since,
+        since,
         size: n,
-        edition: u8::from(edition),
-        closes: 0,
-        close: [0; 4],
+        edition: u8::from(s.edition),
+        ..records::no_job()
     };
     records::begin(
         counting(rest, pending),
@@ -92,36 +76,41 @@ fn append(size: usize, rest: Rest, s: Survey, n: u8, pending: [u16; 4]) -> Stepp
 }
 
 // A put or delete, which leaves so much besides.
+#[tactic(auto, unfolding(crate::specs::Calls::change_in))]
 fn serve_change(size: u16, rest: Rest, s: Survey, host: Host, n: u8, spare: u8) -> Stepped
     ensures { result ≡ change_in size rest s host n spare }
 {
     let room = size as usize;
-    let p = s.pending;
-    let bytes = fetch::of_host(p, host) as usize + n as usize;
+    let bytes = fetch::of_host(s.pending, host) as usize + n as usize;
     if room < 2 * bytes {
         return refused(Refusal::HostFull, rest);
     }
     if room::no_room(room, s, host, n, spare) {
         return refused(Refusal::NoRoom, rest);
     }
-    append(room, rest, s, n, fetch::with_host(p, host, bytes as u16))
+    append(
+        room,
+        rest,
+        s,
+        n,
+        fetch::with_host(s.pending, host, bytes as u16),
+    )
 }
 
 // A commit or an abort: with nothing pending it is done at once.
+#[tactic(auto, unfolding(crate::specs::Calls::end_in))]
 fn serve_end(size: usize, rest: Rest, s: Survey, host: Host) -> Stepped
     ensures { result ≡ end_in size rest s host }
 {
-    let p = s.pending;
-    if fetch::of_host(p, host) == 0 {
+    if fetch::of_host(s.pending, host) == 0 {
         return done(rest);
     }
-    let edition = s.edition;
     append(
         size,
         rest,
         s,
-        room::end_len(edition),
-        fetch::with_host(p, host, 0),
+        room::end_len(s.edition),
+        fetch::with_host(s.pending, host, 0),
     )
 }
 
@@ -132,18 +121,13 @@ fn serve_commit(block: &[u8], rest: Rest, s: Survey, host: Host, places: &mut [u
         × (places.new ≡ committed block.now s host result places.old) }
 {
     let begun = serve_end(block.len(), rest, s, host);
-    if begun.ended {
-        return begun;
+    if !begun.ended && !begun.next.job.moves {
+        survey::commit(block, s, host, places);
     }
-    let next = begun.next;
-    let job = next.job;
-    if job.moves {
-        return begun;
-    }
-    survey::commit(block, s, host, places);
     begun
 }
 
+#[tactic(auto, unfolding(crate::specs::Calls::log_in, wire::specs::Code::page_into))]
 fn serve_log(size: u16, rest: Rest, s: Survey, page: Page, reply: &mut [u8]) -> Stepped
     ensures { (result ≡ log_in rest reply.old) × (reply.new ≡ reply_log size s reply.old) }
 {
@@ -153,12 +137,13 @@ fn serve_log(size: u16, rest: Rest, s: Survey, page: Page, reply: &mut [u8]) -> 
                 return refused(Refusal::ShortReply, rest);
             }
             wire::write_page(reply, s.time, s.count, s.used, size);
-            return done(rest);
+            done(rest)
         }
     }
 }
 
 // A transfer takes the store to the second edition. Nothing is pending: it starts to look for pending frames at the end.
+#[tactic(auto, unfolding(crate::specs::Calls::convert_by))]
 fn convert(rest: Rest, s: Survey) -> Stepped
     ensures { result ≡ convert_by rest s edition.First }
 {
@@ -166,36 +151,30 @@ fn convert(rest: Rest, s: Survey) -> Stepped
         return refused(Refusal::Worn, rest);
     }
     let job = Job {
-        wipe: [0; MAX_BLOCKS],
-        wipes: 0,
         moves: true,
         drops: true,
         target: image::next_block(rest.blocks, rest.block),
         time: s.time + 1,
-        since: [0; 4],
-        size: 0,
         edition: u8::from(Edition::Second),
-        closes: 0,
-        close: [0; 4],
+        ..records::no_job()
     };
     records::begin(rest, job, records::starting(0, s.end))
 }
 
 // With something pending a store stays as it is.
+#[tactic(auto, unfolding(crate::specs::Calls::convert_in, crate::specs::Calls::convert_by))]
 fn serve_convert(size: usize, rest: Rest, s: Survey) -> Stepped
     ensures { result ≡ convert_in size rest s }
 {
-    let p = s.pending;
-    if 0 < surveys::sum(p) {
+    if 0 < surveys::sum(s.pending) {
         return refused(Refusal::Pending, rest);
     }
     if size < room::used_second(s) {
         return refused(Refusal::NoRoom, rest);
     }
-    let edition = s.edition;
-    match edition {
-        Edition::First => return convert(rest, s),
-        Edition::Second => return done(rest),
+    match s.edition {
+        Edition::First => convert(rest, s),
+        Edition::Second => done(rest),
     }
 }
 
@@ -222,8 +201,7 @@ fn lay_frame(
         Request::Delete(id) => lay(edition, Head::Delete(host, id), value, frame),
         Request::Commit => lay(edition, Head::Commit(host), value, frame),
         Request::Abort => lay(edition, Head::Abort(host), value, frame),
-        Request::Read(_) => return,
-        Request::Log(_) => return,
+        Request::Read(_) | Request::Log(_) => {}
         Request::Convert => *frame = records::no_frame(),
     }
 }
@@ -240,28 +218,27 @@ pub fn serve(
     frame: &mut [u8; BUFFER_LEN],
     ask: Request,
 ) -> Stepped
-    requires { (parse message.now ≡ Is ask) × (s.end ≤ length block.now) × (length block.now ≤ block_max) }
+    requires { (parse message.now ≡ Some ask) × (s.end ≤ length block.now) × (length block.now ≤ block_max) }
     ensures { (result ≡ serve_in (length block.now) rest reply.old host message.now s ask)
         × (reply.new ≡ reply_in (length block.now) s reply.old ask)
         × (places.new ≡ places_by block.now s host result ask places.old)
         × (frame.new ≡ frame_in s.edition host message.now ask frame.old) }
 {
-    let edition = s.edition;
-    let n = room::change_len(edition);
-    lay_frame(edition, host, message, ask, frame);
+    let n = room::change_len(s.edition);
+    lay_frame(s.edition, host, message, ask, frame);
     let room = block.len();
     let size = room as u16;
     match ask {
         Request::Put(_) => {
             let v = wire::value(message).len() as u8;
             // it leaves room for a delete and a commit
-            return serve_change(size, rest, s, host, n + v, n + room::end_len(edition));
+            serve_change(size, rest, s, host, n + v, n + room::end_len(s.edition))
         }
-        Request::Delete(_) => return serve_change(size, rest, s, host, n, 0),
-        Request::Commit => return serve_commit(block, rest, s, host, places),
-        Request::Abort => return serve_end(room, rest, s, host),
-        Request::Read(_) => return done(rest),
-        Request::Log(page) => return serve_log(size, rest, s, page, reply),
-        Request::Convert => return serve_convert(room, rest, s),
+        Request::Delete(_) => serve_change(size, rest, s, host, n, 0),
+        Request::Commit => serve_commit(block, rest, s, host, places),
+        Request::Abort => serve_end(room, rest, s, host),
+        Request::Read(_) => done(rest),
+        Request::Log(page) => serve_log(size, rest, s, page, reply),
+        Request::Convert => serve_convert(room, rest, s),
     }
 }

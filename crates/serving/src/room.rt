@@ -26,57 +26,40 @@ pub fn change_len(edition: Edition) -> u8
 pub fn claimed(s: Survey) -> usize
     ensures { (result ≡ claimed_in s) × (result ≤ 327675) }
 {
-    let p = s.pending;
-    s.used as usize + surveys::sum(p)
+    s.used as usize + surveys::sum(s.pending)
 }
 
 // U in the second edition, in which each object's frame has a check.
 pub fn used_second(s: Survey) -> usize
     ensures { result ≡ second_in s.edition s }
 {
-    let edition = s.edition;
-    match edition {
+    match s.edition {
         Edition::First => s.used as usize + 4 * s.count as usize,
         Edition::Second => s.used as usize,
     }
-}
-
-// 1 for a host with pending bytes.
-fn has_some(n: u16) -> usize
-    ensures { (result ≡ one (ltb 0 n)) × (result ≤ 1) }
-{
-    if 0 < n { 1 } else { 0 }
 }
 
 // How many hosts have something pending.
 pub fn open_hosts(p: [u16; 4]) -> usize
     ensures { (result ≡ open_in p) × (result ≤ 4) }
 {
-    has_some(p[0]) + has_some(p[1]) + has_some(p[2]) + has_some(p[3])
+    p.iter().filter(|n| 0 < **n).count()
 }
 
-// The same for host j, where host h has a change more.
-fn will_have(h: u8, j: u8, n: u16) -> usize
-    ensures { (result ≡ one (eqb h j || ltb 0 n)) × (result ≤ 1) }
-{
-    if h == j {
-        return 1;
-    }
-    has_some(n)
-}
-
+// How many will have, where a host has a change more.
 fn open_with(host: Host, p: [u16; 4]) -> usize
     ensures { (result ≡ open_with host p) × (result ≤ 4) }
 {
-    let h = host.0;
-    will_have(h, 0, p[0]) + will_have(h, 1, p[1]) + will_have(h, 2, p[2]) + will_have(h, 3, p[3])
+    (0..4)
+        .filter(|j| host.0 == *j || 0 < fetch::of_host(p, Host(*j)))
+        .count()
 }
 
 // The room rule, for a change of n bytes of a host.
+#[tactic(auto, unfolding(crate::specs::Calls::no_room_in))]
 pub fn no_room(size: usize, s: Survey, host: Host, n: u8, spare: u8) -> bool
     ensures { result ≡ no_room_in size s host n spare }
 {
-    let p = s.pending;
-    let edition = s.edition;
-    size < claimed(s) + n as usize + end_len(edition) as usize * open_with(host, p) + spare as usize
+    let open = end_len(s.edition) as usize * open_with(host, s.pending);
+    size < claimed(s) + n as usize + open + spare as usize
 }

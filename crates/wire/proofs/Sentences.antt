@@ -8,6 +8,7 @@ use lib.Dec.{eqb, leb}
 use lib.ListN.{length, get_or, drop, length-append, length-drop, get_or-append}
 use lib.Seq.{drop-cons, get_or-append-add, get_or-drop, ext_get_or}
 use borrow.Author.Tests.{eqb-true, eq-eqb, leb-true, le-leb}
+use Rattle.std.specs.Bool.{then_some}
 use Rattle.flash.proofs.Cases.{and_both, and_left, and_right}
 use Rattle.flash.specs.Bytes.{Bytes}
 use Rattle.flash.proofs.Blank.{byte_at, le16_u16, le32_u32}
@@ -16,18 +17,17 @@ use Rattle.frame.specs.Frame.{id_max, value_max, id_of}
 use Rattle.wire.specs.declared.Page.TheVariants.{Summary}
 use Rattle.wire.specs.declared.Request.{Request}
 use Rattle.wire.specs.declared.Request.TheVariants.{Put, Delete, Commit, Abort, Read, Log, Convert}
-use Rattle.wire.specs.declared.Parsed.{Parsed}
-use Rattle.wire.specs.declared.Parsed.TheVariants.{Is, Malformed}
-use Rattle.wire.specs.Message.{word_at, id_in, is_if, only_id, no_body, id_and_value, summary_page, of_kind, parse, log_page, with_page}
+use Rattle.wire.specs.Message.{Parsed, word_at, id_in, only_id, no_body, id_and_value, summary_page, of_kind, parse, log_page, with_page}
+use Rattle.std.specs.Prelude.{Some, None}
 use Rattle.wire.specs.Sentences.{number2, Headed, Means, MessagesExact, MalformedExact, ReadKind, ReadKindExact, ValueExact, PageIn, PageExact}
 
 -- ---- from what is read to what it means
 
 abbrev Meant : List ℕ → Parsed → Type 0
-Meant m (Is q) = Means m q
-Meant m Malformed = Unit {0}
+Meant m (Some q) = Means m q
+Meant m None = Unit {0}
 
-meant_if : (m : List ℕ) (b : Bool) (q : Request) → (b ≡ true → Means m q) → Meant m (is_if b q)
+meant_if : (m : List ℕ) (b : Bool) (q : Request) → (b ≡ true → Means m q) → Meant m (then_some b q)
 meant_if m true q f = f refl
 meant_if m false q f = tt
 
@@ -97,24 +97,24 @@ the_id m i e = ap id_of e
 is-only-id : (m : List ℕ) (i : ObjectId) → length m ≡ 6 → number2 m 4 ≡ i.0 → i.0 ≤ 255 → only_id m ≡ true
 is-only-id m i l w h = and_both (eqb (length m) 6) (leb (word_at m 4) id_max) (eq-eqb (length m) 6 l) (le-leb (word_at m 4) id_max (omega arith))
 
-parse-means : (m : List ℕ) (q : Request) → Means m q → parse m ≡ Is q
+parse-means : (m : List ℕ) (q : Request) → Means m q → parse m ≡ Some q
 parse-means m (Put i) (h, a, b, w, k) =
     let t : id_and_value m ≡ true =
     and_both (leb 6 (length m)) (leb (length m) (6 + value_max) && leb (word_at m 4) id_max) (le-leb 6 (length m) a)
     (and_both (leb (length m) (6 + value_max)) (leb (word_at m 4) id_max) (le-leb (length m) (6 + value_max) b)
     (le-leb (word_at m 4) id_max (omega arith))) in
-    parse-kind m 0x0101 h ∙ ap₂ (λ (x : Bool) (j : ObjectId). is_if x (Put j)) t (the_id m i w)
+    parse-kind m 0x0101 h ∙ ap₂ (λ (x : Bool) (j : ObjectId). then_some x (Put j)) t (the_id m i w)
 parse-means m (Delete i) (h, l, w, k) =
-    parse-kind m 0x0102 h ∙ ap₂ (λ (x : Bool) (j : ObjectId). is_if x (Delete j)) (is-only-id m i l w k) (the_id m i w)
-parse-means m Commit (h, l) = parse-kind m 0x0103 h ∙ ap (λ (x : Bool). is_if x Commit) (eq-eqb (length m) 4 l)
-parse-means m Abort (h, l) = parse-kind m 0x0104 h ∙ ap (λ (x : Bool). is_if x Abort) (eq-eqb (length m) 4 l)
+    parse-kind m 0x0102 h ∙ ap₂ (λ (x : Bool) (j : ObjectId). then_some x (Delete j)) (is-only-id m i l w k) (the_id m i w)
+parse-means m Commit (h, l) = parse-kind m 0x0103 h ∙ ap (λ (x : Bool). then_some x Commit) (eq-eqb (length m) 4 l)
+parse-means m Abort (h, l) = parse-kind m 0x0104 h ∙ ap (λ (x : Bool). then_some x Abort) (eq-eqb (length m) 4 l)
 parse-means m (Read i) (h, l, w, k) =
-    parse-kind m 0x0105 h ∙ ap₂ (λ (x : Bool) (j : ObjectId). is_if x (Read j)) (is-only-id m i l w k) (the_id m i w)
+    parse-kind m 0x0105 h ∙ ap₂ (λ (x : Bool) (j : ObjectId). then_some x (Read j)) (is-only-id m i l w k) (the_id m i w)
 parse-means m (Log Summary) (h, l, p) =
     parse-kind m 0x0106 h
-    ∙ ap (λ (x : Bool). is_if x (Log Summary))
+    ∙ ap (λ (x : Bool). then_some x (Log Summary))
     (and_both (eqb (length m) 5) (eqb (get_or m 4 0) 1) (eq-eqb (length m) 5 l) (eq-eqb (get_or m 4 0) 1 p))
-parse-means m Convert (h, l) = parse-kind m 0x0108 h ∙ ap (λ (x : Bool). is_if x Convert) (eq-eqb (length m) 4 l)
+parse-means m Convert (h, l) = parse-kind m 0x0108 h ∙ ap (λ (x : Bool). then_some x Convert) (eq-eqb (length m) 4 l)
 
 pub messages_exact : MessagesExact
 unfolding MessagesExact
@@ -123,13 +123,13 @@ messages_exact m q = ((λ e. subst (Meant m) e (meant_parse m)), parse-means m q
 pub malformed-exact : MalformedExact
 unfolding MalformedExact
 malformed-exact m = (
-  λ e q y. let z : Malformed ≡ Is q = sym e ∙ parse-means m q y in let w : ◌≡◌ {A = ℕ} 0 1 = cc in omega arith,
+  λ e q y. let z : None ≡ Some q = sym e ∙ parse-means m q y in let w : ◌≡◌ {A = ℕ} 0 1 = cc in omega arith,
   λ f. go (parse m) refl f,
 )
   where
-    go : (p : Parsed) → parse m ≡ p → ((q : Request) → Means m q → ⊥) → parse m ≡ Malformed
-    go Malformed e f = e
-    go (Is q) e f = absurd (f q (subst (Meant m) e (meant_parse m)))
+    go : (p : Parsed) → parse m ≡ p → ((q : Request) → Means m q → ⊥) → parse m ≡ None
+    go None e f = e
+    go (Some q) e f = absurd (f q (subst (Meant m) e (meant_parse m)))
 
 pub value-exact : ValueExact
 unfolding ValueExact

@@ -1,13 +1,16 @@
 -- Messages and replies, document 01, "What hosts send".
-use Rattle.std.specs.Prelude.{List, ◌++◌, Bool, true, false, ◌&&◌, ℕ, ◌+◌, eqb, leb, length, get_or, drop}
+use Rattle.std.specs.Prelude.{List, ◌++◌, Option, Bool, true, false, ◌&&◌, ℕ, ◌+◌, eqb, leb, length, get_or, drop, None}
+use Rattle.std.specs.Bool.{then_some}
 use Rattle.flash.specs.Bytes.{u16le, u32le, le16}
 use Rattle.frame.specs.declared.ObjectId.{ObjectId}
 use Rattle.frame.specs.Frame.{id_max, value_max, kind_at, body_at}
 use Rattle.wire.specs.declared.Page.TheVariants.{Summary}
 use Rattle.wire.specs.declared.Request.{Request}
 use Rattle.wire.specs.declared.Request.TheVariants.{Put, Delete, Commit, Abort, Read, Log, Convert}
-use Rattle.wire.specs.declared.Parsed.{Parsed}
-use Rattle.wire.specs.declared.Parsed.TheVariants.{Is, Malformed}
+
+-- what a message is: a request, or malformed
+abbrev pub Parsed : Type 0
+Parsed = Option Request
 
 -- "A message is length (2, equal to the bytes given), kind (2), body.", as a frame begins: its kind and its body stand where a frame's do
 
@@ -24,11 +27,6 @@ id_end = body_at + 2
 
 abbrev pub value_in_of : List ℕ → List ℕ
 value_in_of m = drop id_end m
-
--- a request if its body is as its kind asks, else malformed
-abbrev pub is_if : Bool → Request → Parsed
-is_if true q = Is q
-is_if false q = Malformed
 
 -- an id of at most 255 follows, and nothing else
 abbrev pub only_id : List ℕ → Bool
@@ -51,18 +49,18 @@ summary_page m = eqb (length m) (body_at + 1) && eqb (get_or m body_at 0) 1
 abbrev pub of_kind : ℕ → List ℕ → Parsed
 of_kind k m =
     elim (eqb k 0x0101) [
-      | true ↦ is_if (id_and_value m) (Put (id_in m))
+      | true ↦ then_some (id_and_value m) (Put (id_in m))
       | false ↦ elim (eqb k 0x0102) [
-        | true ↦ is_if (only_id m) (Delete (id_in m))
+        | true ↦ then_some (only_id m) (Delete (id_in m))
         | false ↦ elim (eqb k 0x0103) [
-          | true ↦ is_if (no_body m) Commit
+          | true ↦ then_some (no_body m) Commit
           | false ↦ elim (eqb k 0x0104) [
-            | true ↦ is_if (no_body m) Abort
+            | true ↦ then_some (no_body m) Abort
             | false ↦ elim (eqb k 0x0105) [
-              | true ↦ is_if (only_id m) (Read (id_in m))
+              | true ↦ then_some (only_id m) (Read (id_in m))
               | false ↦ elim (eqb k 0x0106) [
-                | true ↦ is_if (summary_page m) (Log Summary)
-                | false ↦ elim (eqb k 0x0108) [ true ↦ is_if (no_body m) Convert | false ↦ Malformed ]
+                | true ↦ then_some (summary_page m) (Log Summary)
+                | false ↦ elim (eqb k 0x0108) [ true ↦ then_some (no_body m) Convert | false ↦ None ]
               ]
             ]
           ]
@@ -72,7 +70,7 @@ of_kind k m =
 
 -- the length is "equal to the bytes given"
 unfoldable pub parse : List ℕ → Parsed
-parse m = elim (leb body_at (length m) && eqb (word_at m 0) (length m)) [ true ↦ of_kind (word_at m kind_at) m | false ↦ Malformed ]
+parse m = elim (leb body_at (length m) && eqb (word_at m 0) (length m)) [ true ↦ of_kind (word_at m kind_at) m | false ↦ None ]
 
 -- document 02, K8: "A message of kind 0x0105", malformed or not
 abbrev pub of_read_kind : List ℕ → Bool

@@ -1,10 +1,9 @@
 -- Document 01's sentences on messages and on the log page, "What hosts send", and the statements that the definitions say exactly these.
-use Rattle.std.specs.Prelude.{List, ◌∷◌, true, ◌↔◌, ◌≡◌, ℕ, ◌+◌, ◌*◌, ◌≤◌, ◌<◌, length, get_or}
+use Rattle.std.specs.Prelude.{List, ◌∷◌, true, ◌↔◌, ◌≡◌, ℕ, ◌+◌, ◌*◌, ◌≤◌, ◌<◌, length, get_or, Some, None}
 use Rattle.frame.specs.Frame.{value_max}
 use Rattle.wire.specs.declared.Page.TheVariants.{Summary}
 use Rattle.wire.specs.declared.Request.{Request}
 use Rattle.wire.specs.declared.Request.TheVariants.{Put, Delete, Commit, Abort, Read, Log, Convert}
-use Rattle.wire.specs.declared.Parsed.TheVariants.{Is, Malformed}
 use Rattle.wire.specs.Message.{value_in_of, parse, of_read_kind, log_page, with_page}
 
 -- "Numbers are little-endian everywhere": the number of the two, and of the four, bytes from an offset on
@@ -35,7 +34,7 @@ Means m (Log Summary) = Headed m 0x0106 × (length m ≡ 5) × (get_or m 4 0 ≡
 Means m Convert = Headed m 0x0108 × (length m ≡ 4)
 
 unfoldable pub MessagesExact : Type 0
-MessagesExact = (m : List ℕ) (q : Request) → (parse m ≡ Is q) ↔ Means m q
+MessagesExact = (m : List ℕ) (q : Request) → (parse m ≡ Some q) ↔ Means m q
 
 -- document 02, K8: "A message of kind 0x0105", whatever its length says and whatever follows
 pub record ReadKind (m : List ℕ) : Type 0 where
@@ -47,7 +46,7 @@ ReadKindExact = (m : List ℕ) → (of_read_kind m ≡ true) ↔ ReadKind m
 
 -- 1: "message malformed: length, kind, id, value length or page"
 unfoldable pub MalformedExact : Type 0
-MalformedExact = (m : List ℕ) → (parse m ≡ Malformed) ↔ ((q : Request) → Means m q → ⊥)
+MalformedExact = (m : List ℕ) → (parse m ≡ None) ↔ ((q : Request) → Means m q → ⊥)
 
 -- "put: id 2, value": the value is every byte after length, kind and id
 unfoldable pub ValueExact : Type 0

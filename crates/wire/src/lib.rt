@@ -3,7 +3,7 @@
 
 ghost use Rattle.std.specs.Prelude.{◌≡◌, ◌+◌, ◌<◌, get_or};
 ghost use Rattle.wire.specs.Answer.{refusal_number, edge_number, refused_number, field_number, spot, refusal_spot, spot_of};
-ghost use Rattle.wire.specs.Message.{word_at, id_in, value_in_of, is_if, only_id, no_body, id_and_value, summary_page, of_kind, parse, of_read_kind, log_page};
+ghost use Rattle.wire.specs.Message.{word_at, id_in, value_in_of, only_id, no_body, id_and_value, summary_page, of_kind, parse, of_read_kind, log_page};
 ghost use Rattle.wire.specs.Code.{overlay, page_into, value_place};
 
 use frame::{BODY_AT, Fault, Field, ID_MAX, KIND_AT, ObjectId, VALUE_MAX};
@@ -24,13 +24,6 @@ pub enum Request {
     Read(ObjectId),
     Log(Page),
     Convert,
-}
-
-// What a message is.
-#[derive(Clone, Copy)]
-pub enum Parsed {
-    Is(Request),
-    Malformed,
 }
 
 // Why a call is refused. A mount names the half that it can't take, and in it the first bad field.
@@ -60,7 +53,7 @@ pub enum Answer {
 }
 
 // What a refused mount names: a half, the number of a field (0 for none) and its offset in the half.
-#[derive(Clone, Copy)]
+#[derive(Clone, Copy, Default)]
 pub struct Spot {
     pub half: u8,
     pub field: u8,
@@ -85,19 +78,12 @@ const BODY: u8 = BODY_AT as u8;
 
 const LAST_ID: u16 = ID_MAX as u16;
 
-// A byte of a message, 0 past its end.
-fn byte_at(m: &[u8], i: usize) -> u16
-    ensures { (result ≡ get_or m.now i 0) × (result < 256) }
-{
-    flash::byte_at(m, i) as u16
-}
-
-// The number that two bytes are.
+// The number that two bytes are, each 0 past the message's end.
 pub fn word_at(m: &[u8], i: u8) -> u16
     ensures { result ≡ word_at m.now i }
 {
     let at = i as usize;
-    byte_at(m, at) + 256 * byte_at(m, at + 1)
+    u16::from_le_bytes([flash::get_or(m, at, 0), flash::get_or(m, at + 1, 0)])
 }
 
 pub fn id_in(m: &[u8]) -> ObjectId
@@ -110,29 +96,13 @@ pub fn id_in(m: &[u8]) -> ObjectId
 pub fn is_read_kind(m: &[u8]) -> bool
     ensures { result ≡ of_read_kind m.now }
 {
-    if m.len() < BODY_AT {
-        return false;
-    }
-    word_at(m, KIND) == 0x0105
-}
-
-fn is_if(fits: bool, ask: Request) -> Parsed
-    ensures { result ≡ is_if fits ask }
-{
-    if fits {
-        Parsed::Is(ask)
-    } else {
-        Parsed::Malformed
-    }
+    BODY_AT <= m.len() && word_at(m, KIND) == 0x0105
 }
 
 fn only_id(m: &[u8]) -> bool
     ensures { result ≡ only_id m.now }
 {
-    if m.len() != ID_END {
-        return false;
-    }
-    word_at(m, BODY) <= LAST_ID
+    m.len() == ID_END && word_at(m, BODY) <= LAST_ID
 }
 
 fn no_body(m: &[u8]) -> bool
@@ -144,70 +114,62 @@ fn no_body(m: &[u8]) -> bool
 fn id_and_value(m: &[u8]) -> bool
     ensures { result ≡ id_and_value m.now }
 {
-    if m.len() < ID_END {
-        return false;
-    }
-    if PUT_MAX < m.len() {
-        return false;
-    }
-    word_at(m, BODY) <= LAST_ID
+    (ID_END..=PUT_MAX).contains(&m.len()) && word_at(m, BODY) <= LAST_ID
 }
 
 fn summary_page(m: &[u8]) -> bool
     ensures { result ≡ summary_page m.now }
 {
-    if m.len() != LOG_LEN {
-        return false;
-    }
-    byte_at(m, BODY_AT) == 1
+    m.len() == LOG_LEN && flash::get_or(m, BODY_AT, 0) == 1
 }
 
-// The request that a message of a kind is.
-fn of_kind(kind: u16, m: &[u8]) -> Parsed
+// The request that a message of a kind is, if its body is as the kind asks.
+fn of_kind(kind: u16, m: &[u8]) -> Option<Request>
     ensures { result ≡ of_kind kind m.now }
 {
     match kind {
-        0x0101 => is_if(id_and_value(m), Request::Put(id_in(m))),
-        0x0102 => is_if(only_id(m), Request::Delete(id_in(m))),
-        0x0103 => is_if(no_body(m), Request::Commit),
-        0x0104 => is_if(no_body(m), Request::Abort),
-        0x0105 => is_if(only_id(m), Request::Read(id_in(m))),
-        0x0106 => is_if(summary_page(m), Request::Log(Page::Summary)),
-        0x0108 => is_if(no_body(m), Request::Convert),
-        _ => Parsed::Malformed,
+        0x0101 => id_and_value(m).then_some(Request::Put(id_in(m))),
+        0x0102 => only_id(m).then_some(Request::Delete(id_in(m))),
+        0x0103 => no_body(m).then_some(Request::Commit),
+        0x0104 => no_body(m).then_some(Request::Abort),
+        0x0105 => only_id(m).then_some(Request::Read(id_in(m))),
+        0x0106 => summary_page(m).then_some(Request::Log(Page::Summary)),
+        0x0108 => no_body(m).then_some(Request::Convert),
+        _ => None,
     }
 }
 
-// What a message asks for.
-pub fn parse(message: &[u8]) -> Parsed
+// What a message asks for; none of a malformed one.
+#[tactic(auto, unfolding(crate::specs::Message::parse))]
+pub fn parse(message: &[u8]) -> Option<Request>
     ensures { result ≡ parse message.now }
 {
-    if message.len() < BODY_AT {
-        return Parsed::Malformed;
+    if BODY_AT <= message.len() && word_at(message, 0) as usize == message.len() {
+        of_kind(word_at(message, KIND), message)
+    } else {
+        None
     }
-    if word_at(message, 0) as usize != message.len() {
-        return Parsed::Malformed;
-    }
-    of_kind(word_at(message, KIND), message)
 }
 
-fn refusal_number(why: Refusal) -> u8
-    ensures { result ≡ refusal_number why }
-{
-    match why {
-        Refusal::Malformed => 1,
-        Refusal::NoStore => 2,
-        Refusal::Foreign(_, _) => 3,
-        Refusal::ImageLength => 4,
-        Refusal::Busy => 5,
-        Refusal::Worn => 6,
-        Refusal::NoRoom => 7,
-        Refusal::NoObject => 8,
-        Refusal::ShortReply => 9,
-        Refusal::HostRange => 10,
-        Refusal::Stale => 11,
-        Refusal::HostFull => 12,
-        Refusal::Pending => 16,
+impl From<Refusal> for u8 {
+    ghost from_gives = { λ why n. n ≡ refusal_number why };
+
+    fn from(why: Refusal) -> u8 {
+        match why {
+            Refusal::Malformed => 1,
+            Refusal::NoStore => 2,
+            Refusal::Foreign(_, _) => 3,
+            Refusal::ImageLength => 4,
+            Refusal::Busy => 5,
+            Refusal::Worn => 6,
+            Refusal::NoRoom => 7,
+            Refusal::NoObject => 8,
+            Refusal::ShortReply => 9,
+            Refusal::HostRange => 10,
+            Refusal::Stale => 11,
+            Refusal::HostFull => 12,
+            Refusal::Pending => 16,
+        }
     }
 }
 
@@ -218,7 +180,7 @@ pub fn number(answer: Answer) -> u8
     match answer {
         Answer::Done => 0,
         Answer::More => 255,
-        Answer::Refused(why) => refusal_number(why),
+        Answer::Refused(why) => u8::from(why),
     }
 }
 
@@ -227,12 +189,12 @@ pub fn refused(answer: Answer) -> u8
     ensures { result ≡ refused_number answer }
 {
     match answer {
-        Answer::Done => 0,
-        Answer::More => 0,
-        Answer::Refused(why) => refusal_number(why),
+        Answer::Done | Answer::More => 0,
+        Answer::Refused(why) => u8::from(why),
     }
 }
 
+// A field's number in C's header. No `From`: both types are other crates', so the impl can't stand here.
 fn field_number(field: Field) -> u8
     ensures { result ≡ field_number field }
 {
@@ -249,56 +211,17 @@ fn field_number(field: Field) -> u8
     }
 }
 
-fn nowhere() -> Spot
-    ensures { result ≡ spot 0 0 0 }
-{
-    Spot {
-        half: 0,
-        field: 0,
-        place: 0,
-    }
-}
-
-fn named(half: u8, fault: Fault) -> Spot
-    ensures { result ≡ spot half (field_number fault.field) fault.place }
-{
-    let field = fault.field;
-    Spot {
-        half: half,
-        field: field_number(field),
-        place: fault.place,
-    }
-}
-
-fn refusal_spot(why: Refusal) -> Spot
-    ensures { result ≡ refusal_spot why }
-{
-    let none = nowhere();
-    match why {
-        Refusal::Malformed => none,
-        Refusal::NoStore => none,
-        Refusal::Foreign(half, fault) => named(half, fault),
-        Refusal::ImageLength => none,
-        Refusal::Busy => none,
-        Refusal::Worn => none,
-        Refusal::NoRoom => none,
-        Refusal::NoObject => none,
-        Refusal::ShortReply => none,
-        Refusal::HostRange => none,
-        Refusal::Stale => none,
-        Refusal::HostFull => none,
-        Refusal::Pending => none,
-    }
-}
-
 // What an answer names: only a mount's 3 names something.
 pub fn spot_of(answer: Answer) -> Spot
     ensures { result ≡ spot_of answer }
 {
     match answer {
-        Answer::Done => nowhere(),
-        Answer::More => nowhere(),
-        Answer::Refused(why) => refusal_spot(why),
+        Answer::Refused(Refusal::Foreign(half, fault)) => Spot {
+            half,
+            field: field_number(fault.field),
+            place: fault.place,
+        },
+        _ => Spot::default(),
     }
 }
 
@@ -307,24 +230,17 @@ pub fn value(message: &[u8]) -> &[u8]
     ensures value { result.now ≡ value_in_of message.now }
     ensures place { (result.ref_ptr.0 ≡ message.entry.ref_ptr.0) × (result.ref_ptr.1 ≡ value_place message.now + message.entry.ref_ptr.1) }
 {
-    let n = message.len();
-    if n < ID_END {
-        return &message[n..];
-    }
-    &message[ID_END..]
+    &message[message.len().min(ID_END)..]
 }
 
 // Lays a source over the first bytes of a slice that is no shorter.
+#[tactic(auto, unfolding(crate::specs::Code::overlay))]
 pub fn lay(bytes: &mut [u8], source: &[u8])
     ensures { bytes.new ≡ overlay source.now bytes.old }
 {
-    if bytes.len() < source.len() {
-        return;
-    }
-    let mut i = 0;
-    while i < source.len() {
-        bytes[i] = source[i];
-        i += 1;
+    let n = source.len();
+    if n <= bytes.len() {
+        bytes[..n].copy_from_slice(source);
     }
 }
 
@@ -332,21 +248,12 @@ pub fn lay(bytes: &mut [u8], source: &[u8])
 pub fn write_page(reply: &mut [u8], time: u32, count: u16, used: u16, size: u16)
     ensures { reply.new ≡ page_into (log_page time count used size) reply.old }
 {
+    let [t0, t1, t2, t3] = time.to_le_bytes();
+    let [c0, c1] = count.to_le_bytes();
+    let [u0, u1] = used.to_le_bytes();
+    let [s0, s1] = size.to_le_bytes();
     let page = [
-        PAGE_LEN,
-        0,
-        0x01,
-        0x02,
-        (time % 256) as u8,
-        (time / 256 % 256) as u8,
-        (time / 65536 % 256) as u8,
-        (time / 16777216) as u8,
-        (count % 256) as u8,
-        (count / 256) as u8,
-        (used % 256) as u8,
-        (used / 256) as u8,
-        (size % 256) as u8,
-        (size / 256) as u8,
+        PAGE_LEN, 0, 0x01, 0x02, t0, t1, t2, t3, c0, c1, u0, u1, s0, s1,
     ];
     lay(reply, &page);
 }
