@@ -26,7 +26,7 @@ pub enum Phase {
 }
 
 // What a job is to do; it stays as it is while the job runs.
-#[derive(Clone, Copy)]
+#[derive(Clone, Copy, Default)]
 pub struct Job {
     // blocks to erase first, and how many of them
     pub wipe: [u8; MAX_BLOCKS],
@@ -48,7 +48,7 @@ pub struct Job {
 }
 
 // How far a job has come.
-#[derive(Clone, Copy)]
+#[derive(Clone, Copy, Default)]
 pub struct Cursor {
     // the step of the stage, but for Copy
     pub index: u8,

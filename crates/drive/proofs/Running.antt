@@ -2,6 +2,7 @@
 use mathlib.Core.Path.{◌≡◌, refl, sym, ap, ap₂, subst, ◌∙◌}
 use mathlib.Core.List.{List, [], ◌∷◌}
 use mathlib.Core.Bool.{Bool, true, false, ◌&&◌, cond}
+use mathlib.Core.Logic.{◌⊎◌, inl, inr}
 use Prim.Native.Nat.{ℕ, zero, suc, ◌+◌, ◌-◌, ◌*◌, ◌≤◌, ◌<◌}
 use native.Mathlib.Omega.{arith}
 use native.Mathlib.Nat.{zero-add}
@@ -155,6 +156,10 @@ ith bs o i = let e : i + o ≡ o + i = omega arith in ap (λ (j : ℕ). get_or b
 
 -- ---- some bytes of a frame at once
 
+pub by_count : {P : Type 0} (k : ℕ) → (k ≡ 0 → P) → (0 < k → P) → P
+by_count zero none some = none refl
+by_count (suc k) none some = some (omega arith)
+
 module _ (N : ℕ) (p u f img : List ℕ) (n : Numbers) (k : ℕ) where
   abbrev was : Record
   was = assemble n p u f
@@ -183,13 +188,21 @@ module _ (N : ℕ) (p u f img : List ℕ) (n : Numbers) (k : ℕ) where
             ∙ ap₂ (λ (i : List ℕ) (x : Numbers). run_from N m (k + d) (stepped i (assemble x p u f))) (sym wrote) (sym moved);
       }
 
+  -- with no step it stays as it is
+  stood : (st : Stage) → n.phase ≡ Busy st → (x : Cursor) → x ≡ c → (img' : List ℕ) (n' : Numbers) → k ≡ 0 → img' ≡ img → n' ≡ staged st x n
+      → Bursts N k img was img' (assemble n' p u f)
+  stood st e x g img' n' z same moved =
+      let r : assemble n' p u f ≡ was = ap (λ (y : Numbers). assemble y p u f) moved ∙ own st e x g in
+      subst (λ (y : Record). Bursts N k img was img' y) (sym r) (subst (λ (i : List ℕ). Bursts N k img was i was) (sym same)
+      (subst (λ (j : ℕ). Bursts N j img was img was) (sym z) (no_burst N img was)))
+
   zero_on : (on_by 0 c ≡ c) × (steps_by 0 c ≡ c)
   zero_on = (
     ap₂ (λ (x y : ℕ). cursor c.index x c.id c.source c.size y) (zero-add c.at) (zero-add c.off),
     ap (λ (x : ℕ). cursor x c.at c.id c.source c.size c.off) (zero-add c.index),
   )
 
-  pub copies_some : n.phase ≡ Busy Copy → Short N (length img) n.rest (copy_lane n) k → k + c.off ≤ length u
+  copies_some : n.phase ≡ Busy Copy → Short N (length img) n.rest (copy_lane n) k → k + c.off ≤ length u
       → (img' : List ℕ) (n' : Numbers) → img' ≡ laid N (copy_lane n) u k img → n' ≡ staged Copy (on_by k c) n
       → Bursts N k img was img' (assemble n' p u f)
   copies_some e short full =
@@ -209,7 +222,7 @@ module _ (N : ℕ) (p u f img : List ℕ) (n : Numbers) (k : ℕ) where
             (in_stage Copy (cursor c.index z c.id c.source c.size w) was)) x y,
       ))
 
-  pub appends_some : n.phase ≡ Busy Append → Short N (length img) n.rest (append_lane n) k → k + c.index ≤ length f
+  appends_some : n.phase ≡ Busy Append → Short N (length img) n.rest (append_lane n) k → k + c.index ≤ length f
       → (img' : List ℕ) (n' : Numbers) → img' ≡ laid N (append_lane n) f k img → n' ≡ staged Append (steps_by k c) n
       → Bursts N k img was img' (assemble n' p u f)
   appends_some e short full =
@@ -228,6 +241,20 @@ module _ (N : ℕ) (p u f img : List ℕ) (n : Numbers) (k : ℕ) where
             (in_stage Append (cursor z c.at c.id c.source c.size c.off) was)) x,
       ))
 
+  pub copies : n.phase ≡ Busy Copy → (img' : List ℕ) (n' : Numbers) → (0 < k → Short N (length img) n.rest (copy_lane n) k)
+      → (0 < k → (img' ≡ laid N (copy_lane n) u k img) × (k + c.off ≤ length u)) → (k ≡ 0 → img' ≡ img) → n' ≡ staged Copy (on_by k c) n
+      → Bursts N k img was img' (assemble n' p u f)
+  copies e img' n' short wrote none moved =
+      by_count k (λ z. stood Copy e (on_by k c) (ap (λ (j : ℕ). on_by j c) z ∙ zero_on.0) img' n' z (none z) moved)
+      (λ h. copies_some e (short h) (wrote h).1 img' n' (wrote h).0 moved)
+
+  pub appends : n.phase ≡ Busy Append → (img' : List ℕ) (n' : Numbers) → (0 < k → Short N (length img) n.rest (append_lane n) k)
+      → (0 < k → (img' ≡ laid N (append_lane n) f k img) × (k + c.index ≤ length f)) → (k ≡ 0 → img' ≡ img) → n' ≡ staged Append (steps_by k c) n
+      → Bursts N k img was img' (assemble n' p u f)
+  appends e img' n' short wrote none moved =
+      by_count k (λ z. stood Append e (steps_by k c) (ap (λ (j : ℕ). steps_by j c) z ∙ zero_on.1) img' n' z (none z) moved)
+      (λ h. appends_some e (short h) (wrote h).1 img' n' (wrote h).0 moved)
+
 -- ---- a run from here
 
 module _ (N : ℕ) (d : Drove) (most steps k : ℕ) (img : List ℕ) (r : Record) (img₁ : List ℕ) (r₁ : Record) (more : steps < most)
@@ -244,15 +271,17 @@ module _ (N : ℕ) (d : Drove) (most steps k : ℕ) (img : List ℕ) (r : Record
 
   module _ (s : Stepped) (p u f img₂ : List ℕ) (x : Steps s.answer s.ended (leaves s p u f) img₂ (step_on N img₁ r₁)) where
     pub run_again : s.answer ≡ More
-        → (run_from N (most - (steps + k + 1)) (steps + k + 1) (stepped img₂ (assemble s.next p u f)) ≡ d)
+        → (run_from N (most - (steps + (k + 1))) (steps + (k + 1)) (stepped img₂ (assemble s.next p u f)) ≡ d)
         × (answer_in s.next.phase ≡ More)
     run_again e =
+        let there : steps + (k + 1) ≡ steps + k + 1 = omega arith in
         let whole : leaves s p u f ≡ assemble s.next p u f = ap (λ (b : Bool). leaves_if b s.next p u f) (x.goes e) in
         let y : Steps More s.ended (leaves s p u f) img₂ (step_on N img₁ r₁) =
         subst (λ (a : Answer). Steps a s.ended (leaves s p u f) img₂ (step_on N img₁ r₁)) e x in
         let z : step_on N img₁ r₁ ≡ stepped img₂ (assemble s.next p u f) =
         more-steps N img₁ r₁ s.ended (leaves s p u f) img₂ y ∙ ap (stepped img₂) whole in (
-          ap (run_from N (most - (steps + k + 1)) (steps + k + 1)) (sym z) ∙ stepping,
+          ap (λ (j : ℕ). run_from N (most - j) j (stepped img₂ (assemble s.next p u f))) there
+              ∙ ap (run_from N (most - (steps + k + 1)) (steps + k + 1)) (sym z) ∙ stepping,
           sym (ap (λ (o : Out). o.answer) z) ∙ sym x.answers ∙ e,
         )
 
@@ -291,9 +320,14 @@ run_spent N d most steps p u f img n spent from busy =
     }
 
 -- a record in no job
-pub run_rests : (N most : ℕ) (p u f img : List ℕ) (n : Numbers) → answer_in n.phase ≡ Done
+at-rest : (ph : Phase) → (ph ≡ Unmounted) ⊎ (ph ≡ Idle) → answer_in ph ≡ Done
+at-rest ph (inl e) = ap answer_in e
+at-rest ph (inr e) = ap answer_in e
+
+pub run_rests : (N most : ℕ) (p u f img : List ℕ) (n : Numbers) → (n.phase ≡ Unmounted) ⊎ (n.phase ≡ Idle)
     → Runs (record { steps = 0; stepped = staying Done n }) p u f img (run_on_of N most img (assemble n p u f))
-run_rests N most p u f img n rests =
+run_rests N most p u f img n out =
+    let rests : answer_in n.phase ≡ Done = at-rest n.phase out in
     let e : ended 0 (stepped img (assemble n p u f)) ≡ run_on_of N most img (assemble n p u f) =
     sym (run-done N most 0 (stepped img (assemble n p u f)) rests) in
     record {

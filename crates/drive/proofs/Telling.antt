@@ -2,6 +2,7 @@
 use mathlib.Core.Path.{◌≡◌, sym, ap, ap₂, ◌∙◌}
 use mathlib.Core.List.{List}
 use mathlib.Core.Bool.{Bool, cond}
+use mathlib.Core.Logic.{◌⊎◌, inl, inr}
 use Prim.Native.Nat.{ℕ, suc, ◌+◌, ◌*◌, ◌≤◌, ◌<◌}
 use native.Mathlib.Omega.{arith}
 use lib.ListN.{length, get_or, drop}
@@ -9,7 +10,8 @@ use lib.Seq.{drop-cons, drop-length}
 use Rattle.flash.specs.Flash.{Step, program_at, size_in, writes, write_all}
 use Rattle.wire.specs.declared.Refusal.TheVariants as refusal
 use Rattle.board.specs.declared.Stage.{Stage}
-use Rattle.board.specs.declared.Phase.TheVariants.{Busy}
+use Rattle.board.specs.declared.Phase.{Phase}
+use Rattle.board.specs.declared.Phase.TheVariants.{Unmounted, Idle, Busy}
 use Rattle.board.specs.declared.Record.{Record}
 use Rattle.board.specs.declared.Rest.{Rest}
 use Rattle.board.specs.declared.Next.TheVariants as next
@@ -27,6 +29,11 @@ pub next_is : (N len : ℕ) (r : Record) (st : Stage) (x : Step) (b : Bool) → 
 next_is N len r st x b e t =
     ap (λ (c : Bool). cond c (placed (size_in N len) x) (next.Refused refusal.Stale)) (sym t)
     ∙ ap (λ (y : Step). cond (takes N len r.rest y) (placed (size_in N len) y) (next.Refused refusal.Stale)) e
+
+-- in no job there is nothing
+pub nothing_next : (N len : ℕ) (r : Record) (ph : Phase) → (ph ≡ Unmounted) ⊎ (ph ≡ Idle) → next.Nothing ≡ next_in N ph len r
+nothing_next N len r ph (inl e) = sym (ap (λ (x : Phase). next_in N x len r) e)
+nothing_next N len r ph (inr e) = sym (ap (λ (x : Phase). next_in N x len r) e)
 
 -- ---- bytes programmed
 

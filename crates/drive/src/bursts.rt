@@ -1,12 +1,11 @@
 // The bytes of a frame that is copied or appended, programmed one after the other.
-ghost use Rattle.std.specs.Prelude.{◌≡◌, List, ℕ, ◌+◌, ◌-◌, ◌<◌, ◌≤◌, length};
+ghost use Rattle.std.specs.Prelude.{◌≡◌, List, ℕ, ◌+◌, ◌<◌, ◌≤◌, length};
 ghost use Rattle.flash.specs.Flash.{writes, write_all};
 ghost use Rattle.board.specs.declared.Stage.TheVariants.{Copy, Append};
-ghost use Rattle.board.specs.declared.Phase.TheVariants.{Busy};
 ghost use Rattle.job.specs.Code.{assemble, staged};
-ghost use Rattle.drive.specs.Code.{on_by, steps_by, Short, laid, Bursts};
+ghost use Rattle.drive.specs.Code.{on_by, steps_by, copy_lane, append_lane, Short, laid, Bursts};
 
-use board::{Phase, Rest, Stage};
+use board::{Cursor, Phase, Rest, Stage};
 use frame::BUFFER_LEN;
 use job::records::Numbers;
 
@@ -31,29 +30,9 @@ fn program_all(image: &mut [u8], at: usize, bytes: &[u8])
     requires { at + length bytes.now ≤ length image.old }
     ensures { image.new ≡ write_all image.old (writes at bytes.now) }
 {
-    let mut i = 0;
-    while i < bytes.len() {
-        image[at + i] = image[at + i] & bytes[i];
-        i += 1;
+    for i in 0..bytes.len() {
+        image[at + i] &= bytes[i];
     }
-}
-
-fn less(a: usize, b: usize) -> usize
-    ensures { result ≡ a - b }
-{
-    if a <= b {
-        return 0;
-    }
-    a - b
-}
-
-fn least(a: usize, b: usize) -> usize
-    ensures { (result ≤ a) × (result ≤ b) }
-{
-    if a <= b {
-        return a;
-    }
-    b
 }
 
 // How many bytes can be programmed before the frame's last one: none where the next one's place is not in the image.
@@ -61,17 +40,12 @@ fn burst_len(len: usize, blocks: u8, rest: Rest, lane: Lane, most: usize) -> usi
     ensures { (result ≤ most) × (0 < result → Short blocks len rest lane result) }
 {
     let size = flash::size_of(blocks, len);
-    if !job::same_shape(len, blocks, rest) {
-        return 0;
+    if job::same_shape(len, blocks, rest) && job::lies_in(blocks, size, lane.block, lane.at) {
+        let end = BUFFER_LEN.min(lane.size as usize);
+        let ahead = end.saturating_sub(lane.done as usize + 1);
+        return most.min(size - lane.at).min(ahead);
     }
-    if !job::lies_in(blocks, size, lane.block, lane.at) {
-        return 0;
-    }
-    let ahead = less(
-        least(lane.size as usize, BUFFER_LEN),
-        lane.done as usize + 1,
-    );
-    least(least(most, size - lane.at), ahead)
+    0
 }
 
 // Programs them, and says how many they were.
@@ -92,10 +66,8 @@ fn lay(
         return 0;
     }
     let done = lane.done as usize;
-    let size = flash::size_of(blocks, image.len());
-    let at = lane.block as usize * size + lane.at;
-    let bytes = &frame[..];
-    program_all(image, at, &bytes[done..done + k]);
+    let at = lane.block as usize * flash::size_of(blocks, image.len()) + lane.at;
+    program_all(image, at, &frame[done..done + k]);
     k
 }
 
@@ -105,16 +77,15 @@ fn copied(n: Numbers, k: usize) -> Numbers
     requires { (n.cursor.at + k < 65536) × (n.cursor.off + k < 256) }
     ensures { result ≡ staged Copy (on_by k n.cursor) n }
 {
-    let rest = n.rest;
-    let job = n.job;
-    let mut c = n.cursor;
-    c.at = c.at + k as u16;
-    c.off = c.off + k as u8;
+    let cursor = Cursor {
+        at: n.cursor.at + k as u16,
+        off: n.cursor.off + k as u8,
+        ..n.cursor
+    };
     Numbers {
         phase: Phase::Busy(Stage::Copy),
-        rest: rest,
-        job: job,
-        cursor: c,
+        cursor,
+        ..n
     }
 }
 
@@ -122,87 +93,41 @@ fn appended(n: Numbers, k: usize) -> Numbers
     requires { n.cursor.index + k < 256 }
     ensures { result ≡ staged Append (steps_by k n.cursor) n }
 {
-    let rest = n.rest;
-    let job = n.job;
-    let mut c = n.cursor;
-    c.index = c.index + k as u8;
+    let cursor = Cursor {
+        index: n.cursor.index + k as u8,
+        ..n.cursor
+    };
     Numbers {
         phase: Phase::Busy(Stage::Append),
-        rest: rest,
-        job: job,
-        cursor: c,
+        cursor,
+        ..n
     }
 }
 
-fn no_burst(n: Numbers) -> Stride
-    ensures { result ≡ record { next = n; steps = 0 } }
+fn copy_lane(n: Numbers) -> Lane
+    ensures { result ≡ copy_lane n }
 {
-    Stride { next: n, steps: 0 }
+    Lane {
+        block: n.job.target,
+        at: n.cursor.at as usize,
+        done: n.cursor.off,
+        size: n.cursor.size,
+    }
 }
 
-// Not the frame's last byte: after it another frame is loaded.
-fn burst_copy(
-    image: &mut [u8],
-    blocks: u8,
-    n: Numbers,
-    unit: &[u8; BUFFER_LEN],
-    most: usize,
-) -> Stride
-    requires { n.phase ≡ Busy Copy }
-    ensures { (result.steps ≤ most) × ((p f : List ℕ) → Bursts blocks result.steps image.old (assemble n p unit.now f)
-        image.new (assemble result.next p unit.now f)) }
+fn append_lane(n: Numbers) -> Lane
+    ensures { result ≡ append_lane n }
 {
-    let rest = n.rest;
-    let job = n.job;
-    let c = n.cursor;
-    let lane = Lane {
-        block: job.target,
-        at: c.at as usize,
-        done: c.off,
-        size: c.size,
-    };
-    let k = lay(image, blocks, rest, lane, unit, most);
-    if k == 0 {
-        return no_burst(n);
-    }
-    Stride {
-        next: copied(n, k),
-        steps: k,
+    Lane {
+        block: n.rest.block,
+        at: n.rest.end as usize + n.cursor.index as usize,
+        done: n.cursor.index,
+        size: n.job.size,
     }
 }
 
-// Not the frame's last byte: after it the job is over.
-fn burst_append(
-    image: &mut [u8],
-    blocks: u8,
-    n: Numbers,
-    frame: &[u8; BUFFER_LEN],
-    most: usize,
-) -> Stride
-    requires { n.phase ≡ Busy Append }
-    ensures { (result.steps ≤ most) × ((p u : List ℕ) → Bursts blocks result.steps image.old (assemble n p u frame.now)
-        image.new (assemble result.next p u frame.now)) }
-{
-    let rest = n.rest;
-    let job = n.job;
-    let c = n.cursor;
-    let lane = Lane {
-        block: rest.block,
-        at: rest.end as usize + c.index as usize,
-        done: c.index,
-        size: job.size,
-    };
-    let k = lay(image, blocks, rest, lane, frame, most);
-    if k == 0 {
-        return no_burst(n);
-    }
-    Stride {
-        next: appended(n, k),
-        steps: k,
-    }
-}
-
-// Steps of a job that are made faster together, at most so many; maybe none.
+// Steps of a job that are made faster together, at most so many; maybe none. A frame's last byte is not among them: after it another frame is loaded,
+// or the job is over.
 pub fn burst(
     image: &mut [u8],
     blocks: u8,
@@ -215,13 +140,21 @@ pub fn burst(
         (assemble n p unit.now frame.now) image.new
         (assemble result.next p unit.now frame.now)) }
 {
-    let phase = n.phase;
-    match phase {
-        Phase::Busy(stage) => match stage {
-            Stage::Copy => return burst_copy(image, blocks, n, unit, most),
-            Stage::Append => return burst_append(image, blocks, n, frame, most),
-            _ => return no_burst(n),
-        },
-        _ => return no_burst(n),
+    match n.phase {
+        Phase::Busy(Stage::Copy) => {
+            let steps = lay(image, blocks, n.rest, copy_lane(n), unit, most);
+            Stride {
+                next: copied(n, steps),
+                steps,
+            }
+        }
+        Phase::Busy(Stage::Append) => {
+            let steps = lay(image, blocks, n.rest, append_lane(n), frame, most);
+            Stride {
+                next: appended(n, steps),
+                steps,
+            }
+        }
+        _ => Stride { next: n, steps: 0 },
     }
 }

@@ -19,17 +19,16 @@ fn placed(size: usize, a: Action) -> Next
     ensures { result ≡ placed size (flash_step a) }
 {
     match a {
-        Action::Program(block, at, byte) => return Next::Program(block as usize * size + at, byte),
-        Action::Erase(block) => return Next::Erase(block as usize * size, size),
+        Action::Program(block, at, byte) => Next::Program(block as usize * size + at, byte),
+        Action::Erase(block) => Next::Erase(block as usize * size, size),
     }
 }
 
 fn next_busy(len: usize, blocks: u8, stage: Stage, n: Numbers, byte: u8) -> Next
     ensures { (p u f : List ℕ) → HandsAt stage n byte u f → result ≡ next_in blocks (Busy stage) len (assemble n p u f) }
 {
-    let rest = n.rest;
     let a = job::next_action(stage, n, byte);
-    if job::within_image(len, blocks, rest, a) {
+    if job::within_image(len, blocks, n.rest, a) {
         return placed(flash::size_of(blocks, len), a);
     }
     Next::Refused(Refusal::Stale)
@@ -40,11 +39,9 @@ fn next_busy(len: usize, blocks: u8, stage: Stage, n: Numbers, byte: u8) -> Next
 pub fn next_of(len: usize, blocks: u8, n: Numbers, byte: u8) -> Next
     ensures { (p u f : List ℕ) → Hands n byte u f → result ≡ next_on blocks len (assemble n p u f) }
 {
-    let phase = n.phase;
-    match phase {
-        Phase::Unmounted => return Next::Nothing,
-        Phase::Idle => return Next::Nothing,
-        Phase::Busy(stage) => return next_busy(len, blocks, stage, n, byte),
+    match n.phase {
+        Phase::Unmounted | Phase::Idle => Next::Nothing,
+        Phase::Busy(stage) => next_busy(len, blocks, stage, n, byte),
     }
 }
 
@@ -52,10 +49,8 @@ pub fn next_of(len: usize, blocks: u8, n: Numbers, byte: u8) -> Next
 pub fn next(len: usize, blocks: u8, board: Record) -> Next
     ensures { result ≡ next_on blocks len board }
 {
-    let unit = board.unit;
-    let frame = board.frame;
     let n = records::numbers_of(board);
-    next_of(len, blocks, n, job::in_hand(n, &unit, &frame))
+    next_of(len, blocks, n, job::in_hand(n, &board.unit, &board.frame))
 }
 
 // ---- it is made
@@ -66,8 +61,7 @@ pub fn made(image: &[u8], blocks: u8, board: Record) -> Outcome
 {
     let mut places = board.places;
     let mut unit = board.unit;
-    let frame = board.frame;
     let m = job::made_of(image.len(), blocks, records::numbers_of(board));
-    let s = job::load_due(image, blocks, m, &mut places, &mut unit, &frame);
-    records::give_back(s, places, unit, frame)
+    let s = job::load_due(image, blocks, m, &mut places, &mut unit, &board.frame);
+    records::give_back(s, places, unit, board.frame)
 }

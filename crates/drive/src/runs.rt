@@ -34,15 +34,14 @@ fn run_busy(
         (run_on_of blocks most image.old (assemble n places.old unit.old frame.now)) }
 {
     let mut m = n;
-    let mut steps: usize = 0;
+    let mut steps = 0;
     while steps < most {
         let b = bursts::burst(image, blocks, m, unit, frame, most - steps - 1);
         let s = job::step_core(image, blocks, b.next, places, unit, frame);
-        let answer = s.answer;
-        match answer {
+        match s.answer {
             Answer::More => {
                 m = s.next;
-                steps = steps + b.steps + 1;
+                steps += b.steps + 1;
             }
             Answer::Done => return Ran {
                 steps: steps + b.steps + 1,
@@ -55,8 +54,8 @@ fn run_busy(
         }
     }
     Ran {
-        steps: steps,
-        stepped: records::staying(Answer::More, m),
+        steps,
+        stepped: m.staying(Answer::More),
     }
 }
 
@@ -73,17 +72,12 @@ pub fn run_core(
     ensures { Runs result places.new unit.new frame.now image.new
         (run_on_of blocks most image.old (assemble n places.old unit.old frame.now)) }
 {
-    let phase = n.phase;
-    match phase {
-        Phase::Unmounted => return Ran {
+    match n.phase {
+        Phase::Unmounted | Phase::Idle => Ran {
             steps: 0,
-            stepped: records::staying(Answer::Done, n),
+            stepped: n.staying(Answer::Done),
         },
-        Phase::Idle => return Ran {
-            steps: 0,
-            stepped: records::staying(Answer::Done, n),
-        },
-        Phase::Busy(_) => return run_busy(image, blocks, n, places, unit, frame, most),
+        Phase::Busy(_) => run_busy(image, blocks, n, places, unit, frame, most),
     }
 }
 
@@ -100,18 +94,17 @@ pub fn run(image: &mut [u8], blocks: u8, most: usize, board: Record) -> Driven
 {
     let mut places = board.places;
     let mut unit = board.unit;
-    let frame = board.frame;
     let ran = run_core(
         image,
         blocks,
         records::numbers_of(board),
         &mut places,
         &mut unit,
-        &frame,
+        &board.frame,
         most,
     );
     Driven {
         steps: ran.steps,
-        last: records::give_back(ran.stepped, places, unit, frame),
+        last: records::give_back(ran.stepped, places, unit, board.frame),
     }
 }

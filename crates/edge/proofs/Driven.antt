@@ -17,7 +17,8 @@ use Rattle.board.specs.Drive.{made_on}
 use Rattle.job.specs.declared.records.Numbers.{Numbers}
 use Rattle.job.specs.declared.records.Stepped.{Stepped}
 use Rattle.job.specs.declared.moves.Moved.{Moved}
-use Rattle.job.specs.Code.{assemble, LeadsTo, Appends, reached_if, answered_if, answered, Steps}
+use Rattle.job.specs.declared.moves.Moved.TheVariants.{Still, Due}
+use Rattle.job.specs.Code.{assemble, LeadsTo, Appends, answered, ended_at, Steps}
 use Rattle.lent.specs.Layout.{record_size, record_in, record_bytes, record_into}
 use Rattle.pack.specs.Code.{loaded_in, left_in, Holds, changes}
 use Rattle.midframe.specs.Code.{Made}
@@ -34,48 +35,9 @@ pub frame-loaded : (N : ℕ) (img : List ℕ) (n : Numbers) (kind by : ℕ) (b a
 frame-loaded N img n kind by b after places unit placed laid s ends ep eu h w =
     let g = rw (ep, eu) at (h (record_in b).frame ends) in subst (λ (r : Record). Holds r b after) g.gives w
 
--- where a step led, by whether a frame is due
-module _ (N : ℕ) (img : List ℕ) (p : Phase) (m : Moved) (b : List ℕ) (n : ℕ) (after : List ℕ) where
-  abbrev reached-if : (d : Bool) → Record
-  reached-if d = reached_if N d img m.stepped (record_in b).places (record_in b).unit (record_in b).frame
-
-  pub went_loading : m.loads ≡ true → Holds (enter_copy N img (over m.stepped.next b)) b after → n ≡ edge_number More
-      → Went N img p m b n after
-  went_loading t h e =
-      let a : answered m ≡ More = ap (λ (d : Bool). answered_if d m.stepped) t in
-      let g = ap reached-if t in
-      record {
-        answer = e ∙ ap edge_number (sym a);
-        bytes = h.bytes ∙ sym (λ i. cond (changes p (a i)) (record_into (g i) b) b);
-        back = λ _ l. h.back l ∙ sym g;
-      }
-
-  module _ (t : m.loads ≡ false) (e : n ≡ edge_number m.stepped.answer) where
-    same_answer : answered m ≡ m.stepped.answer
-    same_answer = ap (λ (d : Bool). answered_if d m.stepped) t
-
-    pub went_nowhere : changes p m.stepped.answer ≡ false → after ≡ b → Went N img p m b n after
-    went_nowhere f k =
-        let c : changes p (answered m) ≡ false = ap (changes p) same_answer ∙ f in
-        record {
-          answer = e ∙ ap edge_number (sym same_answer);
-          bytes = k ∙ sym (ap (λ (d : Bool). cond d (record_into (reached_in N m img b) b) b) c);
-          back = λ d. absurd (true≢false (sym d ∙ c));
-        }
-
-    pub went_on : changes p m.stepped.answer ≡ true → Holds (left_in m.stepped b) b after → Went N img p m b n after
-    went_on f h =
-        let c : changes p (answered m) ≡ true = ap (changes p) same_answer ∙ f in
-        let g = ap reached-if t in
-        record {
-          answer = e ∙ ap edge_number (sym same_answer);
-          bytes = h.bytes ∙ sym (λ i. cond (c i) (record_into (g i) b) b);
-          back = λ _ l. h.back l ∙ sym g;
-        }
-
 -- the whole: a step, or a step that was made
 pub driven : {N : ℕ} (img b after : List ℕ) (n : ℕ) (m : Moved) (o : Out) → length b ≡ record_size
-    → Steps (answered m) m.stepped.ended (reached_in N m img b) img o → Keeps (record_in b) o → Went N img (record_in b).phase m b n after
+    → Steps (answered m) (ended_at m) (reached_in N m img b) img o → Keeps (record_in b) o → Went N img (record_in b).phase m b n after
     → ((n ≡ edge_number o.answer) × (after ≡ written b o)) × (record_in after ≡ o.board)
 driven img b after n m o l s k w =
     let p = (record_in b).phase in

@@ -31,18 +31,18 @@ fn load(image: &[u8], blocks: u8, n: Numbers, board: &mut [u8])
 pub fn go_on(image: &[u8], blocks: u8, phase: Phase, m: Moved, board: &mut [u8]) -> u8
     ensures { Went blocks image.now phase m board.old result board.new }
 {
-    let s = m.stepped;
-    if m.loads {
-        let next = s.next;
-        load(image, blocks, next, board);
-        return wire::number(Answer::More);
+    match m {
+        Moved::Due(n) => {
+            load(image, blocks, n, board);
+            wire::number(Answer::More)
+        }
+        Moved::Still(s) => {
+            if pack::changes(phase, s.answer) {
+                pack::write_step(s, board);
+            }
+            wire::number(s.answer)
+        }
     }
-    let answer = s.answer;
-    if pack::changes(phase, answer) {
-        pack::write_step(s, board);
-        return wire::number(answer);
-    }
-    wire::number(answer)
 }
 
 // Inner part of grommetide_step: a step by the record's numbers.

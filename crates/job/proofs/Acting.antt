@@ -1,10 +1,11 @@
 -- A flash step by its block and offset; the writes that open and seal a block, by number.
-use mathlib.Core.Path.{◌≡◌, refl, sym, ap, subst}
-use mathlib.Core.List.{List}
+use mathlib.Core.Path.{◌≡◌, refl, sym, ap, subst, ◌∙◌}
+use mathlib.Core.List.{List, [], ◌∷◌}
 use mathlib.Core.Bool.{Bool, true, false, ◌&&◌, cond}
-use Prim.Native.Nat.{ℕ, zero, suc, ◌+◌, ◌*◌, ◌<◌, ◌≤◌}
+use Prim.Native.Nat.{ℕ, zero, suc, ◌+◌, ◌-◌, ◌*◌, ◌/◌, ◌%◌, ◌<◌, ◌≤◌}
 use native.Mathlib.Omega.{arith}
 use lib.Dec.{eqb, ltb}
+use lib.ListN.{get_or}
 use borrow.Author.Tests.{eqb-true, ltb-true}
 use Rattle.flash.specs.Flash.{Step, apply, max_blocks, is_count, size_in, size_of, within, block_of, offset_of, write, writes}
 use Rattle.flash.proofs.Cases.{and_left, and_right, between}
@@ -12,7 +13,9 @@ use Rattle.flash.proofs.Image.{blocks-le}
 use Rattle.flash.proofs.Sizes.{size-within, size-half}
 use Rattle.frame.specs.declared.Edition.{Edition}
 use Rattle.frame.specs.declared.Edition.TheVariants as edition
-use Rattle.journal.specs.Block.{open_write, seal_write, state_at, in_transfer, valid_data}
+use Rattle.frame.specs.Frame.{edition_number, kind_at}
+use Rattle.flash.specs.Bytes.{u32le}
+use Rattle.journal.specs.Block.{open_write, seal_write, last_time, time_at, state_at, in_transfer, valid_data}
 use Rattle.board.specs.declared.Rest.{Rest}
 use Rattle.job.specs.Code.{fits, takes, did}
 
@@ -65,7 +68,12 @@ did_it N x img e = (sym e, sym (ap (λ (b : Bool). cond b (apply (size_of N img)
 
 -- ---- the writes of a header
 
--- the kind's high byte is that of either edition
+-- the kind's low byte is the edition's number, its high byte that of either edition
+pub open_low : (ed : Edition) → write kind_at (edition_number ed) ≡ open_write ed 3
+unfolding writes
+open_low edition.First = refl
+open_low edition.Second = refl
+
 pub open_high : (ed : Edition) → write 3 0x4A ≡ open_write ed 4
 unfolding writes
 open_high edition.First = refl
@@ -80,11 +88,31 @@ open_rest ed (suc (suc (suc zero))) a b c d = absurd (c refl)
 open_rest ed (suc (suc (suc (suc zero)))) a b c d = absurd (d refl)
 open_rest ed (suc (suc (suc (suc (suc i))))) a b c d = refl
 
-pub seal-rest : (time i : ℕ) → (i ≡ 0 → ⊥) → (i ≡ 1 → ⊥) → (i ≡ 2 → ⊥) → (i ≡ 3 → ⊥) → write state_at valid_data ≡ seal_write time i
+-- of the four bytes of a number the last one is below 256 by itself
+seal_bytes : (n : ℕ) → n < 4294967296 → n % 256 ∷ n / 256 % 256 ∷ n / 65536 % 256 ∷ n / 16777216 % 256 ∷ [] ≡ u32le n
+seal_bytes n h =
+    let e : n / 16777216 % 256 ≡ n / 16777216 = omega arith in
+    ap (λ (d : ℕ). n % 256 ∷ n / 256 % 256 ∷ n / 65536 % 256 ∷ d ∷ []) e
+
+seal_at : (time i : ℕ) → i < 4 → write (time_at + i) (get_or (u32le (last_time - time)) i 0) ≡ seal_write time i
 unfolding writes
-seal-rest t zero a b c d = absurd (a refl)
-seal-rest t (suc zero) a b c d = absurd (b refl)
-seal-rest t (suc (suc zero)) a b c d = absurd (c refl)
-seal-rest t (suc (suc (suc zero))) a b c d = absurd (d refl)
-seal-rest t (suc (suc (suc (suc zero)))) a b c d = refl
-seal-rest t (suc (suc (suc (suc (suc i))))) a b c d = refl
+seal_at t zero l = refl
+seal_at t (suc zero) l = refl
+seal_at t (suc (suc zero)) l = refl
+seal_at t (suc (suc (suc zero))) l = refl
+seal_at t (suc (suc (suc (suc i)))) l = absurd (omega arith)
+
+pub seal_byte : (time i : ℕ) (bs : List ℕ)
+    → (let n = last_time - time in bs ≡ n % 256 ∷ n / 256 % 256 ∷ n / 65536 % 256 ∷ n / 16777216 % 256 ∷ [])
+    → i < 4 → write (time_at + i) (get_or bs i 0) ≡ seal_write time i
+seal_byte t i bs e l =
+    ap (λ (b : List ℕ). write (time_at + i) (get_or b i 0)) (e ∙ seal_bytes (last_time - t) (omega arith)) ∙ seal_at t i l
+
+pub seal_last : (time i : ℕ) → 4 ≤ i → write state_at valid_data ≡ seal_write time i
+unfolding writes
+seal_last t zero l = absurd (omega arith)
+seal_last t (suc zero) l = absurd (omega arith)
+seal_last t (suc (suc zero)) l = absurd (omega arith)
+seal_last t (suc (suc (suc zero))) l = absurd (omega arith)
+seal_last t (suc (suc (suc (suc zero)))) l = refl
+seal_last t (suc (suc (suc (suc (suc i))))) l = refl

@@ -1,8 +1,9 @@
 -- What a step leaves, stage by stage; a step refused, and a step done.
 use mathlib.Core.Path.{◌≡◌, refl, sym, ap, subst, ◌∙◌}
 use mathlib.Core.List.{List, []}
+use mathlib.Core.Logic.{◌⊎◌, inl, inr}
 use mathlib.Core.Option.{Option, none, some}
-use mathlib.Core.Bool.{Bool, true, false, not, cond, ◌&&◌}
+use mathlib.Core.Bool.{Bool, true, false, cond, ◌&&◌}
 use Prim.Native.Nat.{ℕ, suc, ◌≤◌, ◌<◌}
 use native.Mathlib.Omega.{arith}
 use lib.Dec.{ltb}
@@ -26,8 +27,9 @@ use Rattle.board.proofs.Outcomes.{next_for}
 use Rattle.job.specs.declared.records.Numbers.{Numbers}
 use Rattle.job.specs.declared.records.Stepped.{Stepped}
 use Rattle.job.specs.declared.moves.Moved.{Moved}
-use Rattle.job.specs.Code.{assemble, staged, going, staying, leaves, LeadsTo, moved_byte, takes, did, offset_for, Steps}
-use Rattle.job.specs.Code.{still, due, reached, reached_if, answered, answered_if, Moves, Loads, in_hand_in, in_hand, HandsAt, HandsIn, Hands, action_by}
+use Rattle.job.specs.declared.moves.Moved.TheVariants.{Still, Due}
+use Rattle.job.specs.Code.{assemble, staged, going, staying, leaves, LeadsTo, takes, did, offset_for, Steps}
+use Rattle.job.specs.Code.{reached, answered, ended_at, Moves, Loads, in_hand_in, in_hand, HandsAt, HandsIn, Hands, action_by}
 use Rattle.job.proofs.Acting.{in_parts, size_low}
 use Rattle.job.proofs.Entering.{when_true, when_false, going_leaves}
 
@@ -42,42 +44,53 @@ copy_more N img r = load-more r (next_for N img r)
 
 -- ---- on in a stage, or out of it
 
-module _ (p u f : List ℕ) where
-  pub on_leaves : (st : Stage) (count : ℕ) (n : Numbers) (after : Record) → ltb (suc n.cursor.index) count ≡ true
+module _ (p u f : List ℕ) (st : Stage) (count : ℕ) (n : Numbers) where
+  on_leaves : (after : Record) → ltb (suc n.cursor.index) count ≡ true
       → LeadsTo p u f (going st (next_index n.cursor) n) (onward st count (assemble n p u f) after)
-  on_leaves st count n after e =
+  on_leaves after e =
       subst (LeadsTo p u f (going st (next_index n.cursor) n))
       (when_true (ltb (suc n.cursor.index) count) (in_stage st (next_index n.cursor) (assemble n p u f)) after e)
       (going_leaves p u f st (next_index n.cursor) n)
 
-  pub off_leaves : (st : Stage) (count : ℕ) (r : Record) (s : Stepped) (after : Record) → ltb (suc r.cursor.index) count ≡ false
+  off_leaves : (s : Stepped) (after : Record) → ltb (suc n.cursor.index) count ≡ false
       → LeadsTo p u f s after
-      → LeadsTo p u f s (onward st count r after)
-  off_leaves st count r s after e l =
-      subst (LeadsTo p u f s) (when_false (ltb (suc r.cursor.index) count) (in_stage st (next_index r.cursor) r) after e) l
+      → LeadsTo p u f s (onward st count (assemble n p u f) after)
+  off_leaves s after e l =
+      subst (LeadsTo p u f s)
+      (when_false (ltb (suc n.cursor.index) count) (in_stage st (next_index n.cursor) (assemble n p u f)) after e) l
+
+  -- the stage's next step, or what comes after its last
+  pub onward_leaves : (s x : Stepped) (after : Record)
+      → (ltb (suc n.cursor.index) count ≡ true → s ≡ going st (next_index n.cursor) n)
+      → (ltb (suc n.cursor.index) count ≡ false → s ≡ x)
+      → LeadsTo p u f x after
+      → LeadsTo p u f s (onward st count (assemble n p u f) after)
+  onward_leaves s x after on off l =
+      on_test (ltb (suc n.cursor.index) count)
+      (λ t. subst (λ (y : Stepped). LeadsTo p u f y (onward st count (assemble n p u f) after)) (sym (on t)) (on_leaves after t))
+      (λ t. subst (λ (y : Stepped). LeadsTo p u f y (onward st count (assemble n p u f) after)) (sym (off t)) (off_leaves x after t l))
 
 module _ (N : ℕ) (i p u f : List ℕ) where
-  pub still_moves : (s : Stepped) (r : Record) → LeadsTo p u f s r → Moves N i p u f (still s) r
+  pub still_moves : (s : Stepped) (r : Record) → LeadsTo p u f s r → Moves N i p u f (Still s) r
   still_moves s r l = record { answers = l.answers; gives = l.gives; goes = l.goes }
 
   -- the next frame is due
-  due_moves : (n : Numbers) → Moves N i p u f (due n) (enter_copy N i (assemble n p u f))
+  due_moves : (n : Numbers) → Moves N i p u f (Due n) (enter_copy N i (assemble n p u f))
   due_moves n = record { answers = copy_more N i (assemble n p u f); gives = refl; goes = λ e. refl }
 
-  pub open_on : (n : Numbers) → ltb (suc n.cursor.index) mark_writes ≡ true
-      → Moves N i p u f (still (going Open (next_index n.cursor) n)) (advance N Open i (assemble n p u f))
+  pub open_moves : (n : Numbers) (m : Moved)
+      → (ltb (suc n.cursor.index) mark_writes ≡ true → m ≡ Still (going Open (next_index n.cursor) n))
+      → (ltb (suc n.cursor.index) mark_writes ≡ false → m ≡ Due n)
+      → Moves N i p u f m (advance N Open i (assemble n p u f))
   unfolding advance
-  open_on n e =
-      still_moves (going Open (next_index n.cursor) n) (advance N Open i (assemble n p u f))
-      (on_leaves p u f Open mark_writes n (enter_copy N i (assemble n p u f)) e)
-
-  pub open_off : (n : Numbers) → ltb (suc n.cursor.index) mark_writes ≡ false
-      → Moves N i p u f (due n) (advance N Open i (assemble n p u f))
-  unfolding advance
-  open_off n e =
-      subst (Moves N i p u f (due n))
-      (when_false (ltb (suc n.cursor.index) mark_writes) (in_stage Open (next_index n.cursor) (assemble n p u f))
-      (enter_copy N i (assemble n p u f)) e) (due_moves n)
+  open_moves n m on off =
+      let after : Record = enter_copy N i (assemble n p u f) in
+      on_test (ltb (suc n.cursor.index) mark_writes)
+      (λ t. subst (λ (y : Moved). Moves N i p u f y (advance N Open i (assemble n p u f))) (sym (on t))
+      (still_moves (going Open (next_index n.cursor) n) (advance N Open i (assemble n p u f)) (on_leaves p u f Open mark_writes n after t)))
+      (λ t. subst (λ (y : Moved). Moves N i p u f y (advance N Open i (assemble n p u f))) (sym (off t))
+      (subst (Moves N i p u f (Due n))
+      (when_false (ltb (suc n.cursor.index) mark_writes) (in_stage Open (next_index n.cursor) (assemble n p u f)) after t) (due_moves n)))
 
 -- ---- a byte copied
 
@@ -91,17 +104,20 @@ module _ (N : ℕ) (i p u f : List ℕ) (n : Numbers) where
       staged Copy (cursor n.cursor.index (suc n.cursor.at) n.cursor.id n.cursor.source n.cursor.size
       (cond b (suc n.cursor.off) 0)) n
 
-  byte_moves : (b : Bool) → Moves N i p u f (record { stepped = staying More (past b); loads = not b })
+  -- where a byte leaves the job: a frame that is past its last byte is followed by the next one
+  abbrev byte_moved : Bool → Moved
+  byte_moved true = Still (staying More (past true))
+  byte_moved false = Due (past false)
+
+  byte_moves : (b : Bool) → Moves N i p u f (byte_moved b)
       (cond b (in_stage Copy (next_byte n.cursor) was) (enter_copy N i (in_stage Copy (past_frame n.cursor) was)))
   byte_moves true = record { answers = refl; gives = refl; goes = λ e. refl }
   byte_moves false = due_moves N i p u f (past false)
 
-  pub copy_moves : Moves N i p u f (record {
-    stepped = staying More (staged Copy (moved_byte n.cursor) n);
-    loads = not (ltb (suc n.cursor.off) n.cursor.size);
-  }) (advance N Copy i was)
+  pub copy_moves : (b : Bool) → ltb (suc n.cursor.off) n.cursor.size ≡ b → (m : Moved) → m ≡ byte_moved b
+      → Moves N i p u f m (advance N Copy i was)
   unfolding advance
-  copy_moves = byte_moves (ltb (suc n.cursor.off) n.cursor.size)
+  copy_moves b e m is = rw (e, is) (byte_moves b)
 
 -- ---- a step's place, and the numbers that are counted up
 
@@ -162,16 +178,16 @@ module _ (N : ℕ) (p u f : List ℕ) (st : Stage) (img : List ℕ) (n : Numbers
   pub step_done : (x : Step) → x ≡ action st before → same_shape N (length img) before ≡ true → within N (size_of N img) x ≡ true → (img' : List ℕ)
       → img' ≡ did N x img
       → (m : Moved) → Moves N img' p u f m (advance N st img' before)
-      → Steps (answered m) m.stepped.ended (reached N m img' p u f) img' (step_busy N st img before)
+      → Steps (answered m) (ended_at m) (reached N m img' p u f) img' (step_busy N st img before)
   unfolding step_busy did
   step_done x e q w img' d m l =
       let k : img' ≡ after = d ∙ sym (when_true (within N (size_of N img) x) (apply (size_of N img) x img) img w) ∙ ap
       (λ (y : Step). apply (size_of N img) y img) e in
       let t : test ≡ true = and_both (same_shape N (length img) before) (within N (size_of N img) (action st before)) q
       (sym (ap (within N (size_of N img)) e) ∙ w) in
-      subst (Steps (answered m) m.stepped.ended (reached N m img' p u f) img')
+      subst (Steps (answered m) (ended_at m) (reached N m img' p u f) img')
       (when_true test (stepped after (advance N st after before)) (refuse refusal.Stale img before []) t)
-      (subst (λ (i : List ℕ). Steps (answered m) m.stepped.ended (reached N m img' p u f) img' (stepped i (advance N st i before))) k
+      (subst (λ (i : List ℕ). Steps (answered m) (ended_at m) (reached N m img' p u f) img' (stepped i (advance N st i before))) k
       (record { image = refl; answers = l.answers; gives = l.gives; goes = l.goes }))
 
 -- ---- a step made by the caller
@@ -201,9 +217,9 @@ module _ (N : ℕ) (img p u f : List ℕ) (st : Stage) (n : Numbers) (len b : �
 
   pub made_done : takes N len n.rest (action_by st n b) ≡ true
       → (m : Moved) → Moves N img p u f m (advance N st img standing)
-      → Steps (answered m) m.stepped.ended (reached N m img p u f) img (made_in_of N (Busy st) img standing)
+      → Steps (answered m) (ended_at m) (reached N m img p u f) img (made_in_of N (Busy st) img standing)
   made_done e m l =
-      subst (Steps (answered m) m.stepped.ended (reached N m img p u f) img)
+      subst (Steps (answered m) (ended_at m) (reached N m img p u f) img)
       (when_true taken (stepped img (advance N st img standing)) (refuse refusal.Stale img standing []) (sym is_taken ∙ e))
       (record { image = refl; answers = l.answers; gives = l.gives; goes = l.goes })
 
@@ -222,6 +238,13 @@ module _ (call : Phase → Out) (ph x : Phase) (e : ph ≡ x) where
 
 pub stays : (img : List ℕ) (r : Record) → Steps Done false r img (out Done img r [])
 stays img r = record { image = refl; answers = refl; gives = refl; goes = λ e. refl }
+
+-- a record in no job stays as it is
+module _ (call : Phase → Out) (ph : Phase) (img : List ℕ) (r : Record) where
+  pub stays_in : (ph ≡ Unmounted) ⊎ (ph ≡ Idle) → (call Unmounted ≡ out Done img r []) × (call Idle ≡ out Done img r [])
+      → Steps Done false r img (call ph)
+  stays_in (inl e) is = rw (e, is.0) (stays img r)
+  stays_in (inr e) is = rw (e, is.1) (stays img r)
 
 pub busy_hand : (n : Numbers) (ph : Phase) (st : Stage) (b : ℕ) (u f : List ℕ) → ph ≡ Busy st → HandsIn ph n b u f → HandsAt st n b u f
 busy_hand n ph st b u f e h = subst (λ (x : Phase). HandsIn x n b u f) e h
@@ -243,22 +266,15 @@ hands n b u f e = hand_in n.phase n b u f e
 
 -- ---- the frame that is due is loaded
 
-module _ (N : ℕ) (p u f img : List ℕ) (o : Out) (m : Moved) (x : Steps (answered m) m.stepped.ended (reached N m img p u f) img o) where
-  none_due : m.loads ≡ false → Steps m.stepped.answer m.stepped.ended (leaves m.stepped p u f) img o
-  none_due e = subst (λ (b : Bool). Steps (answered_if b m.stepped) m.stepped.ended (reached_if N b img m.stepped p u f) img o) e x
-
-  one_due : m.loads ≡ true → (p' u' : List ℕ) (s : Stepped) → LeadsTo p' u' f s (enter_copy N img (assemble m.stepped.next p u f))
-      → Steps s.answer s.ended (leaves s p' u' f) img o
-  one_due e p' u' s l =
-      let y = subst (λ (b : Bool). Steps (answered_if b m.stepped) m.stepped.ended (reached_if N b img m.stepped p u f) img o) e x in
+module _ (N : ℕ) (p u f img : List ℕ) (o : Out) where
+  pub load_steps : (m : Moved) → Steps (answered m) (ended_at m) (reached N m img p u f) img o
+      → (p' u' : List ℕ) (s : Stepped) → Loads N img p u f m s p' u' → Steps s.answer s.ended (leaves s p' u' f) img o
+  load_steps (Still y) x p' u' s l = rw ((l.none y refl).0, (l.none y refl).1, (l.none y refl).2) x
+  load_steps (Due n) x p' u' s l =
+      let d = l.due n refl in
       record {
-        image = y.image;
-        answers = l.answers ∙ sym (copy_more N img (assemble m.stepped.next p u f)) ∙ y.answers;
-        gives = l.gives ∙ y.gives;
-        goes = l.goes;
+        image = x.image;
+        answers = d.answers ∙ sym (copy_more N img (assemble n p u f)) ∙ x.answers;
+        gives = d.gives ∙ x.gives;
+        goes = d.goes;
       }
-
-  pub load_steps : (p' u' : List ℕ) (s : Stepped) → Loads N img p u f m s p' u' → Steps s.answer s.ended (leaves s p' u' f) img o
-  load_steps p' u' s l =
-      on_test m.loads (λ t. one_due t p' u' s (l.due t))
-      (λ t. rw ((l.none t).0, (l.none t).1, (l.none t).2) (none_due t))

@@ -20,6 +20,7 @@ use Rattle.job.specs.declared.Outcome.{Outcome}
 use Rattle.job.specs.declared.records.Numbers.{Numbers}
 use Rattle.job.specs.declared.records.Stepped.{Stepped}
 use Rattle.job.specs.declared.moves.Moved.{Moved}
+use Rattle.job.specs.declared.moves.Moved.TheVariants.{Still, Due}
 use Rattle.job.specs.declared.actions.Action.{Action}
 use Rattle.job.specs.declared.actions.Action.TheVariants as action
 
@@ -63,9 +64,13 @@ staged s c n = record { phase = Busy s; rest = n.rest; job = n.job; cursor = c }
 abbrev pub going : Stage → Cursor → Numbers → Stepped
 going s c n = record { answer = More; next = staged s c n; ended = false }
 
+-- the numbers of a record in no job
+abbrev pub jobless : Phase → Rest → Numbers
+jobless p z = record { phase = p; rest = z; job = no_job; cursor = cursor 0 0 0 0 0 0 }
+
 -- none is left, or none began
 abbrev pub at_rest_of : Answer → Phase → Rest → Stepped
-at_rest_of a p z = record { answer = a; next = record { phase = p; rest = z; job = no_job; cursor = cursor 0 0 0 0 0 0 }; ended = true }
+at_rest_of a p z = record { answer = a; next = jobless p z; ended = true }
 
 -- it ended
 abbrev pub over : Rest → Stepped
@@ -214,38 +219,29 @@ Appends kind by frame = (kind ≡ get_or frame kind_at 0) × (by ≡ get_or fram
 
 -- ---- a step that loads no frame yet
 
-abbrev pub still : Stepped → Moved
-still s = record { stepped = s; loads = false }
-
--- the next frame is due
-abbrev pub due : Numbers → Moved
-due n = record { stepped = staying More n; loads = true }
-
 -- the record that it reaches once the frame that is due is loaded, read from the image
-abbrev pub reached_if : ℕ → Bool → List ℕ → Stepped → List ℕ → List ℕ → List ℕ → Record
-reached_if N true img s places unit frame = enter_copy N img (assemble s.next places unit frame)
-reached_if N false img s places unit frame = leaves s places unit frame
-
 abbrev pub reached : ℕ → Moved → List ℕ → List ℕ → List ℕ → List ℕ → Record
-reached N m img places unit frame = reached_if N m.loads img m.stepped places unit frame
+reached N (Still s) img places unit frame = leaves s places unit frame
+reached N (Due n) img places unit frame = enter_copy N img (assemble n places unit frame)
 
 -- with a frame loaded, or none left to load, the job goes on
-abbrev pub answered_if : Bool → Stepped → Answer
-answered_if true s = More
-answered_if false s = s.answer
-
 abbrev pub answered : Moved → Answer
-answered m = answered_if m.loads m.stepped
+answered (Still s) = s.answer
+answered (Due n) = More
+
+abbrev pub ended_at : Moved → Bool
+ended_at (Still s) = s.ended
+ended_at (Due n) = false
 
 pub record Moves (N : ℕ) (img places unit frame : List ℕ) (m : Moved) (r : Record) : Type 0 where
   pub answers : answered m ≡ answer_of r
   pub gives : reached N m img places unit frame ≡ r
-  pub goes : GoesOn (answered m) m.stepped.ended
+  pub goes : GoesOn (answered m) (ended_at m)
 
 -- the frame that is due is loaded, into the arrays that are lent; where none is due nothing is done
 pub record Loads (N : ℕ) (img places unit frame : List ℕ) (m : Moved) (s : Stepped) (places' unit' : List ℕ) : Type 0 where
-  pub due : m.loads ≡ true → LeadsTo places' unit' frame s (enter_copy N img (assemble m.stepped.next places unit frame))
-  pub none : m.loads ≡ false → (s ≡ m.stepped) × (places' ≡ places) × (unit' ≡ unit)
+  pub due : (n : Numbers) → m ≡ Due n → LeadsTo places' unit' frame s (enter_copy N img (assemble n places unit frame))
+  pub none : (x : Stepped) → m ≡ Still x → (s ≡ x) × (places' ≡ places) × (unit' ≡ unit)
 
 -- an answer, a record and an image are what a step call gives back
 pub record Steps (a : Answer) (ended : Bool) (r : Record) (img : List ℕ) (o : Out) : Type 0 where

@@ -1,11 +1,11 @@
 // The flash step that a job does next, and doing it.
-ghost use Rattle.std.specs.Prelude.{◌≡◌, ◌&&◌, eqb, ltb, get_or, suc, ◌%◌};
-ghost use Rattle.flash.specs.Flash.{program, erase, is_count, size_of, within, write_step};
-ghost use Rattle.journal.specs.Block.{header_kind, open_write, seal_write, close_byte};
+ghost use Rattle.std.specs.Prelude.{◌≡◌, ◌&&◌, eqb, ltb, suc};
+ghost use Rattle.flash.specs.Flash.{program, erase, is_count, size_of, within, write};
+ghost use Rattle.journal.specs.Block.{open_write, seal_write, close_byte};
 ghost use Rattle.job.specs.Code.{action_by, flash_step, fits, takes, did};
 
-use crate::records::Numbers;
-use crate::{header, records};
+use crate::header;
+use crate::records::{LAST_TIME, Numbers};
 use board::{Rest, Stage};
 use flash::MAX_BLOCKS;
 use frame::{Edition, FINISH};
@@ -18,102 +18,63 @@ pub enum Action {
     Erase(u8),
 }
 
-// A block to erase; block 0 past the last of them.
-fn wiped(wipe: [u8; MAX_BLOCKS], i: u8) -> u8
-    ensures { result ≡ get_or wipe i 0 }
-{
-    let k = i as usize;
-    if k < MAX_BLOCKS {
-        return wipe[k];
-    }
-    0
-}
-
-// The low byte of a header's kind.
-fn kind_low(edition: Edition) -> u8
-    ensures { result ≡ header_kind edition % 256 }
-{
-    match edition {
-        Edition::First => 0x01,
-        Edition::Second => 0x02,
-    }
-}
-
-// A write that opens a block: its state byte, then the header's first four.
-fn open_action(edition: Edition, target: u8, i: u8) -> Action
-    ensures { flash_step result ≡ write_step target (open_write edition i) }
+// A write that opens a block, its offset and its byte: the state byte, then the header's first four.
+fn open_write(edition: Edition, i: u8) -> (usize, u8)
+    ensures { write result.0 result.1 ≡ open_write edition i }
 {
     match i {
-        1 => return Action::Program(target, 0, header::LENGTH),
-        2 => return Action::Program(target, 1, 0x00),
-        3 => return Action::Program(target, frame::KIND_AT, kind_low(edition)),
-        4 => return Action::Program(target, header::KIND_HIGH_AT, 0x4A),
-        _ => return Action::Program(target, STATE_AT, IN_TRANSFER),
+        1 => (0, header::LENGTH),
+        2 => (1, 0x00),
+        3 => (frame::KIND_AT, u8::from(edition)),
+        4 => (header::KIND_HIGH_AT, 0x4A),
+        _ => (STATE_AT, IN_TRANSFER),
     }
 }
 
 // A write that seals a block: the inverse of its creation time, then its state byte.
-fn seal_action(target: u8, time: u32, i: u8) -> Action
-    ensures { flash_step result ≡ write_step target (seal_write time i) }
+fn seal_write(time: u32, i: u8) -> (usize, u8)
+    ensures { write result.0 result.1 ≡ seal_write time i }
 {
-    let inverse = records::LAST_TIME - time;
-    match i {
-        0 => return Action::Program(target, TIME_AT, (inverse % 256) as u8),
-        1 => return Action::Program(target, header::TIME_1_AT, (inverse / 256 % 256) as u8),
-        2 => return Action::Program(target, header::TIME_2_AT, (inverse / 65536 % 256) as u8),
-        3 => return Action::Program(target, header::TIME_3_AT, (inverse / 16777216) as u8),
-        _ => return Action::Program(target, STATE_AT, VALID_DATA),
+    let inverse = (LAST_TIME - time).to_le_bytes();
+    let i = i as usize;
+    if i < inverse.len() {
+        return (TIME_AT + i, inverse[i]);
     }
+    (STATE_AT, VALID_DATA)
 }
 
-// The offset of a byte that closes a torn frame; 0 past the last of them.
-fn closed_at(close: [u16; 4], i: u8) -> u16
-    ensures { result ≡ get_or close i 0 }
-{
-    let k = i as usize;
-    if k < 4 {
-        return close[k];
-    }
-    0
-}
-
-// The byte itself: the last one is the frame's finish byte.
+// A byte that closes a torn frame: the last one is the frame's finish byte.
 fn close_byte(i: u8, closes: u8) -> u8
     ensures { result ≡ close_byte (eqb (suc i) closes) }
 {
     if i as usize + 1 == closes as usize {
-        return FINISH;
+        FINISH
+    } else {
+        0
     }
-    0
 }
 
-// By the byte in hand alone: no array is read.
+// By the byte in hand alone: no array of the record's frames or places is read.
 pub fn next_action(stage: Stage, n: Numbers, byte: u8) -> Action
     ensures { flash_step result ≡ action_by stage n byte }
 {
-    let job = n.job;
-    let rest = n.rest;
-    let cursor = n.cursor;
+    let i = n.cursor.index;
     match stage {
-        Stage::Wipe => {
-            let wipe = job.wipe;
-            return Action::Erase(wiped(wipe, cursor.index));
-        }
+        Stage::Wipe => Action::Erase(flash::get_or(&n.job.wipe, i as usize, 0)),
         Stage::Open => {
-            return open_action(Edition::from(job.edition), job.target, cursor.index);
+            let (at, byte) = open_write(Edition::from(n.job.edition), i);
+            Action::Program(n.job.target, at, byte)
         }
-        Stage::Copy => return Action::Program(job.target, cursor.at as usize, byte),
-        Stage::Seal => return seal_action(job.target, job.time, cursor.index),
-        Stage::Drop => return Action::Erase(rest.block),
-        Stage::Append => return Action::Program(
-            rest.block,
-            rest.end as usize + cursor.index as usize,
-            byte,
-        ),
+        Stage::Copy => Action::Program(n.job.target, n.cursor.at as usize, byte),
+        Stage::Seal => {
+            let (at, byte) = seal_write(n.job.time, i);
+            Action::Program(n.job.target, at, byte)
+        }
+        Stage::Drop => Action::Erase(n.rest.block),
+        Stage::Append => Action::Program(n.rest.block, n.rest.end as usize + i as usize, byte),
         Stage::Close => {
-            let close = job.close;
-            let at = closed_at(close, cursor.index) as usize;
-            return Action::Program(rest.block, at, close_byte(cursor.index, job.closes));
+            let at = flash::get_or(&n.job.close, i as usize, 0);
+            Action::Program(n.rest.block, at as usize, close_byte(i, n.job.closes))
         }
     }
 }
@@ -124,23 +85,14 @@ pub fn next_action(stage: Stage, n: Numbers, byte: u8) -> Action
 pub fn is_count(blocks: u8) -> bool
     ensures { result ≡ is_count blocks }
 {
-    if blocks < 2 {
-        return false;
-    }
-    blocks as usize <= MAX_BLOCKS
+    2 <= blocks && blocks as usize <= MAX_BLOCKS
 }
 
 // It lies in an image of so many blocks of a size.
 pub fn lies_in(blocks: u8, size: usize, block: u8, at: usize) -> bool
     ensures { result ≡ (is_count blocks && (ltb block blocks && ltb at size)) }
 {
-    if !is_count(blocks) {
-        return false;
-    }
-    if block < blocks {
-        return at < size;
-    }
-    false
+    is_count(blocks) && block < blocks && at < size
 }
 
 // ---- the step done, where its place lies in the image; else nothing changes
@@ -150,11 +102,11 @@ pub fn program_in(image: &mut [u8], blocks: u8, block: u8, at: usize, byte: u8) 
         × (image.new ≡ did blocks (program block at byte) image.old) }
 {
     let size = flash::size_of(blocks, image.len());
-    if !lies_in(blocks, size, block, at) {
-        return false;
+    let inside = lies_in(blocks, size, block, at);
+    if inside {
+        flash::program(image, block as usize * size + at, byte);
     }
-    flash::program(image, block as usize * size + at, byte);
-    true
+    inside
 }
 
 fn erase_in(image: &mut [u8], blocks: u8, block: u8) -> bool
@@ -162,11 +114,11 @@ fn erase_in(image: &mut [u8], blocks: u8, block: u8) -> bool
         × (image.new ≡ did blocks (erase block) image.old) }
 {
     let size = flash::size_of(blocks, image.len());
-    if !lies_in(blocks, size, block, 0) {
-        return false;
+    let inside = lies_in(blocks, size, block, 0);
+    if inside {
+        flash::erase_block(image, size, block as usize);
     }
-    flash::erase_block(image, size, block as usize);
-    true
+    inside
 }
 
 pub fn act(image: &mut [u8], blocks: u8, a: Action) -> bool
@@ -174,8 +126,8 @@ pub fn act(image: &mut [u8], blocks: u8, a: Action) -> bool
         × (image.new ≡ did blocks (flash_step a) image.old) }
 {
     match a {
-        Action::Program(block, at, byte) => return program_in(image, blocks, block, at, byte),
-        Action::Erase(block) => return erase_in(image, blocks, block),
+        Action::Program(block, at, byte) => program_in(image, blocks, block, at, byte),
+        Action::Erase(block) => erase_in(image, blocks, block),
     }
 }
 
@@ -185,10 +137,7 @@ pub fn act(image: &mut [u8], blocks: u8, a: Action) -> bool
 pub fn same_shape(len: usize, blocks: u8, rest: Rest) -> bool
     ensures { result ≡ fits blocks len rest }
 {
-    if len != rest.last as usize + 1 {
-        return false;
-    }
-    blocks == rest.blocks
+    len == rest.last as usize + 1 && blocks == rest.blocks
 }
 
 // And the place of a step that the caller does lies in it.
@@ -196,11 +145,9 @@ pub fn within_image(len: usize, blocks: u8, rest: Rest, a: Action) -> bool
     ensures { result ≡ takes blocks len rest (flash_step a) }
 {
     let size = flash::size_of(blocks, len);
-    if !same_shape(len, blocks, rest) {
-        return false;
-    }
-    match a {
-        Action::Program(block, at, _) => return lies_in(blocks, size, block, at),
-        Action::Erase(block) => return lies_in(blocks, size, block, 0),
-    }
+    let (block, at) = match a {
+        Action::Program(block, at, _) => (block, at),
+        Action::Erase(block) => (block, 0),
+    };
+    same_shape(len, blocks, rest) && lies_in(blocks, size, block, at)
 }

@@ -1,6 +1,6 @@
 // Numbers of the steps: how many writes open and seal a block, and where in its header they go.
 use frame::KIND_AT;
-use journal::{HEADER_LEN, TIME_AT};
+use journal::HEADER_LEN;
 
 pub const OPENING: u8 = 5;
 
@@ -9,9 +9,3 @@ pub const SEALING: u8 = 5;
 pub const LENGTH: u8 = HEADER_LEN as u8;
 
 pub const KIND_HIGH_AT: usize = KIND_AT + 1;
-
-pub const TIME_1_AT: usize = TIME_AT + 1;
-
-pub const TIME_2_AT: usize = TIME_AT + 2;
-
-pub const TIME_3_AT: usize = TIME_AT + 3;

@@ -1,118 +1,70 @@
 // A job's numbers after a step.
-ghost use Rattle.std.specs.Prelude.{◌≡◌, List, cond, ℕ, suc, ◌<◌, ltb};
+ghost use Rattle.std.specs.Prelude.{◌≡◌, List, cond, ℕ, suc, ◌<◌, ltb, Some, None};
 ghost use Rattle.board.specs.declared.Stage.TheVariants as stages;
 ghost use Rattle.board.specs.Step.{next_index, advance};
-ghost use Rattle.job.specs.Code.{assemble, staged, going, LeadsTo, still, due, Moves, moved_byte, offset_for};
+ghost use Rattle.job.specs.Code.{assemble, staged, going, LeadsTo, Moves, moved_byte, offset_for};
 
 use crate::records::{Numbers, Stepped};
 use crate::{header, records};
-use board::{Cursor, Phase, Stage};
+use board::{Cursor, Phase, Rest, Stage};
 use wire::Answer;
 
-// Where a step leaves a job. No array is read: where `loads` says so, enter_copy goes on from here.
+// Where a step leaves a job. No array is read: where the next frame is due, enter_copy goes on from there.
 #[derive(Clone, Copy)]
-pub struct Moved {
-    pub stepped: Stepped,
-    pub loads: bool,
+pub enum Moved {
+    Still(Stepped),
+    Due(Numbers),
 }
 
-// No frame is loaded.
-pub fn still(s: Stepped) -> Moved
-    ensures { result ≡ still s }
-{
-    Moved {
-        stepped: s,
-        loads: false,
-    }
-}
-
-// The next frame is due.
-fn due(n: Numbers) -> Moved
-    ensures { result ≡ due n }
-{
-    Moved {
-        stepped: records::staying(Answer::More, n),
-        loads: true,
-    }
-}
-
-// The stage has a step more.
+// There is a step more, of so many.
 fn has_next(index: u8, count: u8) -> bool
     ensures { result ≡ ltb (suc index) count }
 {
     index as usize + 1 < count as usize
 }
 
-// On to the stage's next step.
-fn next_step(stage: Stage, n: Numbers) -> Stepped
-    requires { n.cursor.index < 255 }
-    ensures { result ≡ going stage (next_index n.cursor) n }
+// The stage's next step, if it has one more of so many.
+fn next_step(stage: Stage, count: u8, n: Numbers) -> Option<Stepped>
+    ensures { result ≡ cond (ltb (suc n.cursor.index) count) (Some (going stage (next_index n.cursor) n)) None }
 {
-    let c = n.cursor;
+    if !has_next(n.cursor.index, count) {
+        return None;
+    }
     let next = Cursor {
-        index: c.index + 1,
-        at: c.at,
-        id: c.id,
-        source: c.source,
-        size: c.size,
-        off: c.off,
+        index: n.cursor.index + 1,
+        ..n.cursor
     };
-    records::going(stage, next, n)
+    Some(n.going(stage, next))
 }
 
 fn after_wipe(n: Numbers) -> Stepped
     ensures { (N : ℕ) (i p u f : List ℕ) → LeadsTo p u f result (advance N stages.Wipe i (assemble n p u f)) }
 {
-    let job = n.job;
-    let cursor = n.cursor;
-    if has_next(cursor.index, job.wipes) {
-        return next_step(Stage::Wipe, n);
-    }
-    records::enter_open(n)
+    next_step(Stage::Wipe, n.job.wipes, n).unwrap_or_else(|| n.enter_open())
 }
 
 fn after_open(n: Numbers) -> Moved
     ensures { (N : ℕ) (i p u f : List ℕ) → Moves N i p u f result (advance N stages.Open i (assemble n p u f)) }
 {
-    let cursor = n.cursor;
-    if has_next(cursor.index, header::OPENING) {
-        return still(next_step(Stage::Open, n));
-    }
-    due(n)
+    next_step(Stage::Open, header::OPENING, n).map_or(Moved::Due(n), Moved::Still)
 }
 
-// The next byte of a frame of a size, or none past its last.
-fn past(off: u8, size: u8) -> u8
-    ensures { result ≡ cond (ltb (suc off) size) (suc off) 0 }
-{
-    if has_next(off, size) {
-        return off + 1;
-    }
-    0
-}
-
-// Past the byte that was copied.
+// Past the byte that was copied: to the frame's next, or past the frame.
 fn next_byte(n: Numbers) -> Numbers
     requires { n.cursor.at < 32768 }
     ensures { result ≡ staged stages.Copy (moved_byte n.cursor) n }
 {
     let c = n.cursor;
-    let rest = n.rest;
-    let job = n.job;
-    let off = past(c.off, c.size);
-    let next = Cursor {
-        index: c.index,
+    let more = has_next(c.off, c.size);
+    let cursor = Cursor {
         at: c.at + 1,
-        id: c.id,
-        source: c.source,
-        size: c.size,
-        off: off,
+        off: if more { c.off + 1 } else { 0 },
+        ..c
     };
     Numbers {
         phase: Phase::Busy(Stage::Copy),
-        rest: rest,
-        job: job,
-        cursor: next,
+        cursor,
+        ..n
     }
 }
 
@@ -120,52 +72,37 @@ fn after_copy(n: Numbers) -> Moved
     requires { n.cursor.at < 32768 }
     ensures { (N : ℕ) (i p u f : List ℕ) → Moves N i p u f result (advance N stages.Copy i (assemble n p u f)) }
 {
-    let c = n.cursor;
-    Moved {
-        stepped: records::staying(Answer::More, next_byte(n)),
-        loads: !has_next(c.off, c.size),
+    let next = next_byte(n);
+    if has_next(n.cursor.off, n.cursor.size) {
+        return Moved::Still(next.staying(Answer::More));
     }
+    Moved::Due(next)
 }
 
 fn after_seal(n: Numbers) -> Stepped
     ensures { (N : ℕ) (i p u f : List ℕ) → LeadsTo p u f result (advance N stages.Seal i (assemble n p u f)) }
 {
-    let cursor = n.cursor;
-    if has_next(cursor.index, header::SEALING) {
-        return next_step(Stage::Seal, n);
-    }
-    records::enter_drop(n)
+    next_step(Stage::Seal, header::SEALING, n).unwrap_or_else(|| n.enter_drop())
 }
 
 fn after_drop(n: Numbers) -> Stepped
     ensures { (N : ℕ) (i p u f : List ℕ) → LeadsTo p u f result (advance N stages.Drop i (assemble n p u f)) }
 {
-    records::enter_append(records::landed(n))
+    n.landed().enter_append()
 }
 
 fn after_append(n: Numbers) -> Stepped
     requires { n.rest.end < 32768 }
     ensures { (N : ℕ) (i p u f : List ℕ) → LeadsTo p u f result (advance N stages.Append i (assemble n p u f)) }
 {
-    let job = n.job;
-    let cursor = n.cursor;
-    if has_next(cursor.index, job.size) {
-        return next_step(Stage::Append, n);
-    }
-    let mut rest = n.rest;
-    rest.end = rest.end + job.size as u16;
-    records::over(rest)
+    let end = n.rest.end + u16::from(n.job.size);
+    next_step(Stage::Append, n.job.size, n).unwrap_or_else(|| records::over(Rest { end, ..n.rest }))
 }
 
 fn after_close(n: Numbers) -> Stepped
     ensures { (N : ℕ) (i p u f : List ℕ) → LeadsTo p u f result (advance N stages.Close i (assemble n p u f)) }
 {
-    let job = n.job;
-    let cursor = n.cursor;
-    if has_next(cursor.index, job.closes) {
-        return next_step(Stage::Close, n);
-    }
-    records::enter_append(n)
+    next_step(Stage::Close, n.job.closes, n).unwrap_or_else(|| n.enter_append())
 }
 
 // After a step whose place was in the image.
@@ -174,12 +111,12 @@ pub fn advance(stage: Stage, n: Numbers) -> Moved
     ensures { (N : ℕ) (i p u f : List ℕ) → Moves N i p u f result (advance N stage i (assemble n p u f)) }
 {
     match stage {
-        Stage::Wipe => return still(after_wipe(n)),
-        Stage::Open => return after_open(n),
-        Stage::Copy => return after_copy(n),
-        Stage::Seal => return still(after_seal(n)),
-        Stage::Drop => return still(after_drop(n)),
-        Stage::Append => return still(after_append(n)),
-        Stage::Close => return still(after_close(n)),
+        Stage::Wipe => Moved::Still(after_wipe(n)),
+        Stage::Open => after_open(n),
+        Stage::Copy => after_copy(n),
+        Stage::Seal => Moved::Still(after_seal(n)),
+        Stage::Drop => Moved::Still(after_drop(n)),
+        Stage::Append => Moved::Still(after_append(n)),
+        Stage::Close => Moved::Still(after_close(n)),
     }
 }

@@ -1,30 +1,18 @@
 // Where an id stands once its frame is copied.
-ghost use Rattle.std.specs.Prelude.{◌≡◌, List, ℕ, set};
+ghost use Rattle.std.specs.Prelude.{◌≡◌, List, ℕ};
 ghost use Rattle.frame.specs.Code.{frame_of};
 ghost use Rattle.journal.specs.Index.{place_copied};
 ghost use Rattle.job.specs.Code.{ends_by};
 
-use frame::{Head, Host, ObjectId};
+use frame::{Head, Host};
 
 const COMMIT: u8 = 3;
-
-fn set_place(places: &mut [u16], id: ObjectId, at: u16)
-    ensures { places.new ≡ set places.old id.0 at }
-{
-    let i = id.0 as usize;
-    if i < places.len() {
-        places[i] = at;
-    }
-}
 
 // The frame to append is the host's commit, by its kind and host bytes.
 fn ends_with(kind: u8, by: u8, host: Host) -> bool
     ensures { result ≡ ends_by kind by host }
 {
-    if kind == COMMIT {
-        return by == host.0;
-    }
-    false
+    kind == COMMIT && by == host.0
 }
 
 // The places once a frame is copied to an offset: a pending change counts already where the job ends with its host's commit.
@@ -34,25 +22,15 @@ pub fn place_copied(kind: u8, by: u8, at: u16, head: Head, places: &mut [u16; 25
     match head {
         Head::Put(host, id, _) => {
             if ends_with(kind, by, host) {
-                set_place(places, id, at);
-                return;
+                flash::set_at(places, id.0 as usize, at);
             }
-            return;
         }
         Head::Delete(host, id) => {
             if ends_with(kind, by, host) {
-                set_place(places, id, 0);
-                return;
+                flash::set_at(places, id.0 as usize, 0);
             }
-            return;
         }
-        Head::Commit(_) => return,
-        Head::Abort(_) => return,
-        Head::Settled(id, _) => {
-            set_place(places, id, at);
-            return;
-        }
-        Head::Closed(_) => return,
-        Head::Reset => return,
+        Head::Settled(id, _) => flash::set_at(places, id.0 as usize, at),
+        Head::Commit(_) | Head::Abort(_) | Head::Closed(_) | Head::Reset => {}
     }
 }

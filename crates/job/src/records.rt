@@ -3,7 +3,7 @@ ghost use Rattle.std.specs.Prelude.{◌≡◌};
 ghost use Rattle.board.specs.Record.{no_places, no_frame, no_job, cursor, starting, resting, unmounted};
 ghost use Rattle.board.specs.Record as boards;
 ghost use Rattle.board.specs.Step.{first};
-ghost use Rattle.job.specs.Code.{numbers_of, assemble, going, at_rest_of, over, staying, leaves, outcome};
+ghost use Rattle.job.specs.Code.{numbers_of, assemble, jobless, going, at_rest_of, over, staying, leaves, outcome};
 ghost use Rattle.job.specs.Code.{go_append, landed_on, go_drop, go_close, go_open, go_wipe, begins};
 
 use crate::Outcome;
@@ -52,32 +52,13 @@ pub fn no_frame() -> [u8; BUFFER_LEN]
 pub fn no_job() -> Job
     ensures { result ≡ no_job }
 {
-    Job {
-        wipe: [0; MAX_BLOCKS],
-        wipes: 0,
-        moves: false,
-        drops: false,
-        target: 0,
-        time: 0,
-        since: [0; 4],
-        size: 0,
-        edition: 0,
-        closes: 0,
-        close: [0; 4],
-    }
+    Job::default()
 }
 
 fn no_cursor() -> Cursor
     ensures { result ≡ cursor 0 0 0 0 0 0 }
 {
-    Cursor {
-        index: 0,
-        at: 0,
-        id: 0,
-        source: 0,
-        size: 0,
-        off: 0,
-    }
+    Cursor::default()
 }
 
 // Where a record stands, with nothing pending.
@@ -85,12 +66,24 @@ pub fn standing(blocks: u8, last: u16, block: u8, end: u16, edition: u8) -> Rest
     ensures { result ≡ boards.rest blocks last block end edition }
 {
     Rest {
-        blocks: blocks,
-        last: last,
-        block: block,
-        end: end,
+        blocks,
+        last,
+        block,
+        end,
         pending: [0; 4],
-        edition: edition,
+        edition,
+    }
+}
+
+// The numbers of a record in no job.
+fn jobless(phase: Phase, rest: Rest) -> Numbers
+    ensures { result ≡ jobless phase rest }
+{
+    Numbers {
+        phase,
+        rest,
+        job: no_job(),
+        cursor: no_cursor(),
     }
 }
 
@@ -98,13 +91,7 @@ pub fn standing(blocks: u8, last: u16, block: u8, end: u16, edition: u8) -> Rest
 fn resting(phase: Phase, places: [u16; 256], rest: Rest) -> Record
     ensures { result ≡ resting phase places rest }
 {
-    let n = Numbers {
-        phase: phase,
-        rest: rest,
-        job: no_job(),
-        cursor: no_cursor(),
-    };
-    assemble(n, places, no_frame(), no_frame())
+    assemble(jobless(phase, rest), places, no_frame(), no_frame())
 }
 
 pub fn unmounted() -> Record
@@ -118,12 +105,10 @@ pub fn starting(id: u16, source: u16) -> Cursor
     ensures { result ≡ starting id source }
 {
     Cursor {
-        index: 0,
         at: START,
-        id: id,
-        source: source,
-        size: 0,
-        off: 0,
+        id,
+        source,
+        ..no_cursor()
     }
 }
 
@@ -132,15 +117,11 @@ pub fn starting(id: u16, source: u16) -> Cursor
 pub fn numbers_of(board: Record) -> Numbers
     ensures { result ≡ numbers_of board }
 {
-    let phase = board.phase;
-    let rest = board.rest;
-    let job = board.job;
-    let cursor = board.cursor;
     Numbers {
-        phase: phase,
-        rest: rest,
-        job: job,
-        cursor: cursor,
+        phase: board.phase,
+        rest: board.rest,
+        job: board.job,
+        cursor: board.cursor,
     }
 }
 
@@ -152,18 +133,14 @@ pub fn assemble(
 ) -> Record
     ensures { result ≡ assemble n places unit frame }
 {
-    let phase = n.phase;
-    let rest = n.rest;
-    let job = n.job;
-    let cursor = n.cursor;
     Record {
-        phase: phase,
-        rest: rest,
-        places: places,
-        job: job,
-        cursor: cursor,
-        unit: unit,
-        frame: frame,
+        phase: n.phase,
+        rest: n.rest,
+        places,
+        job: n.job,
+        cursor: n.cursor,
+        unit,
+        frame,
     }
 }
 
@@ -176,54 +153,27 @@ pub fn give_back(
 ) -> Outcome
     ensures { result ≡ outcome s.answer (leaves s places unit frame) }
 {
-    let answer = s.answer;
-    let next = s.next;
     if s.ended {
         return Outcome {
-            answer: answer,
-            board: assemble(next, places, no_frame(), no_frame()),
+            answer: s.answer,
+            board: assemble(s.next, places, no_frame(), no_frame()),
         };
     }
     Outcome {
-        answer: answer,
-        board: assemble(next, places, unit, frame),
+        answer: s.answer,
+        board: assemble(s.next, places, unit, frame),
     }
 }
 
 // ---- where a call leaves a job
 
-// It goes on, in a stage, at a cursor.
-pub fn going(stage: Stage, cursor: Cursor, n: Numbers) -> Stepped
-    ensures { result ≡ going stage cursor n }
-{
-    let rest = n.rest;
-    let job = n.job;
-    let next = Numbers {
-        phase: Phase::Busy(stage),
-        rest: rest,
-        job: job,
-        cursor: cursor,
-    };
-    Stepped {
-        answer: Answer::More,
-        next: next,
-        ended: false,
-    }
-}
-
 // None is left, or none began.
 pub fn at_rest(answer: Answer, phase: Phase, rest: Rest) -> Stepped
     ensures { result ≡ at_rest_of answer phase rest }
 {
-    let next = Numbers {
-        phase: phase,
-        rest: rest,
-        job: no_job(),
-        cursor: no_cursor(),
-    };
     Stepped {
-        answer: answer,
-        next: next,
+        answer,
+        next: jobless(phase, rest),
         ended: true,
     }
 }
@@ -235,108 +185,102 @@ pub fn over(rest: Rest) -> Stepped
     at_rest(Answer::Done, Phase::Idle, rest)
 }
 
-// It stays as it is.
-pub fn staying(answer: Answer, n: Numbers) -> Stepped
-    ensures { result ≡ staying answer n }
-{
-    Stepped {
-        answer: answer,
-        next: n,
-        ended: false,
-    }
-}
-
-// ---- entering a stage: the first from there on that has a step
-
 // The cursor at a stage's first step.
 fn first(c: Cursor) -> Cursor
     ensures { result ≡ first c }
 {
-    Cursor {
-        index: 0,
-        at: c.at,
-        id: c.id,
-        source: c.source,
-        size: c.size,
-        off: c.off,
-    }
+    Cursor { index: 0, ..c }
 }
 
-pub fn enter(stage: Stage, n: Numbers) -> Stepped
-    ensures { result ≡ going stage (first n.cursor) n }
-{
-    let cursor = n.cursor;
-    going(stage, first(cursor), n)
-}
-
-pub fn enter_append(n: Numbers) -> Stepped
-    ensures { result ≡ go_append n }
-{
-    let job = n.job;
-    if 0 < job.size {
-        return enter(Stage::Append, n);
+impl Numbers {
+    // The job stays as it is.
+    pub fn staying(self, answer: Answer) -> Stepped
+        ensures { result ≡ staying answer self }
+    {
+        Stepped {
+            answer,
+            next: self,
+            ended: false,
+        }
     }
-    let rest = n.rest;
-    over(rest)
-}
 
-// The block that was made is the current one.
-pub fn landed(n: Numbers) -> Numbers
-    ensures { result ≡ landed_on n }
-{
-    let phase = n.phase;
-    let job = n.job;
-    let cursor = n.cursor;
-    let mut rest = n.rest;
-    rest.block = job.target;
-    rest.end = cursor.at;
-    rest.edition = job.edition;
-    Numbers {
-        phase: phase,
-        rest: rest,
-        job: job,
-        cursor: cursor,
+    // It goes on, in a stage, at a cursor.
+    pub fn going(self, stage: Stage, cursor: Cursor) -> Stepped
+        ensures { result ≡ going stage cursor self }
+    {
+        let next = Numbers {
+            phase: Phase::Busy(stage),
+            cursor,
+            ..self
+        };
+        next.staying(Answer::More)
     }
-}
 
-pub fn enter_drop(n: Numbers) -> Stepped
-    ensures { result ≡ go_drop n }
-{
-    let job = n.job;
-    if job.drops {
-        return enter(Stage::Drop, n);
-    }
-    enter_append(landed(n))
-}
+    // ---- entering a stage: the first from there on that has a step
 
-fn enter_close(n: Numbers) -> Stepped
-    ensures { result ≡ go_close n }
-{
-    let job = n.job;
-    if 0 < job.closes {
-        return enter(Stage::Close, n);
+    pub fn enter(self, stage: Stage) -> Stepped
+        ensures { result ≡ going stage (first self.cursor) self }
+    {
+        self.going(stage, first(self.cursor))
     }
-    enter_append(n)
-}
 
-pub fn enter_open(n: Numbers) -> Stepped
-    ensures { result ≡ go_open n }
-{
-    let job = n.job;
-    if job.moves {
-        return enter(Stage::Open, n);
+    pub fn enter_append(self) -> Stepped
+        ensures { result ≡ go_append self }
+    {
+        if 0 < self.job.size {
+            return self.enter(Stage::Append);
+        }
+        over(self.rest)
     }
-    enter_close(n)
-}
 
-fn enter_wipe(n: Numbers) -> Stepped
-    ensures { result ≡ go_wipe n }
-{
-    let job = n.job;
-    if 0 < job.wipes {
-        return enter(Stage::Wipe, n);
+    // The block that was made is the current one.
+    pub fn landed(self) -> Numbers
+        ensures { result ≡ landed_on self }
+    {
+        let rest = Rest {
+            block: self.job.target,
+            end: self.cursor.at,
+            edition: self.job.edition,
+            ..self.rest
+        };
+        Numbers { rest, ..self }
     }
-    enter_open(n)
+
+    pub fn enter_drop(self) -> Stepped
+        ensures { result ≡ go_drop self }
+    {
+        if self.job.drops {
+            return self.enter(Stage::Drop);
+        }
+        self.landed().enter_append()
+    }
+
+    fn enter_close(self) -> Stepped
+        ensures { result ≡ go_close self }
+    {
+        if 0 < self.job.closes {
+            return self.enter(Stage::Close);
+        }
+        self.enter_append()
+    }
+
+    pub fn enter_open(self) -> Stepped
+        ensures { result ≡ go_open self }
+    {
+        if self.job.moves {
+            return self.enter(Stage::Open);
+        }
+        self.enter_close()
+    }
+
+    fn enter_wipe(self) -> Stepped
+        ensures { result ≡ go_wipe self }
+    {
+        if 0 < self.job.wipes {
+            return self.enter(Stage::Wipe);
+        }
+        self.enter_open()
+    }
 }
 
 // A job accepted: no step is taken yet.
@@ -345,9 +289,9 @@ pub fn begin(rest: Rest, job: Job, cursor: Cursor) -> Stepped
 {
     let n = Numbers {
         phase: Phase::Busy(Stage::Wipe),
-        rest: rest,
-        job: job,
-        cursor: cursor,
+        rest,
+        job,
+        cursor,
     };
-    enter_wipe(n)
+    n.enter_wipe()
 }

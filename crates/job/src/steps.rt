@@ -9,7 +9,8 @@ ghost use Rattle.board.specs.declared.Phase.TheVariants.{Busy};
 ghost use Rattle.board.specs.Record.{Out};
 ghost use Rattle.board.specs.Drive.{made_in_of, made_on};
 ghost use Rattle.board.specs.Step.{loaded, enter_copy, step_busy, step_on};
-ghost use Rattle.job.specs.Code.{assemble, LeadsTo, staying, still, in_hand, HandsAt, Hands, leaves, reached, answered, Appends, Loads, Steps};
+ghost use Rattle.job.specs.declared.moves.Moved.TheVariants.{Still};
+ghost use Rattle.job.specs.Code.{assemble, LeadsTo, staying, in_hand, HandsAt, Hands, leaves, reached, answered, ended_at, Appends, Loads, Steps};
 
 use crate::moves::Moved;
 use crate::records::{Numbers, Stepped};
@@ -33,24 +34,19 @@ fn load(
     ensures { (f : List ℕ) → Appends kind by f → LeadsTo places.new unit.new f result
         (loaded (assemble n places.old unit.old f) (load_in source.now fetch)) }
 {
-    let head = fetch.head;
-    let start = fetch.value;
-    let end = start + frame::value_len(head);
-    let job = n.job;
-    let edition = Edition::from(job.edition);
-    let bytes = frame::encode_frame(edition, head, &source[start..end]);
-    *unit = bytes;
-    let c = n.cursor;
-    placing::place_copied(kind, by, c.at, head, places);
+    let edition = Edition::from(n.job.edition);
+    let end = fetch.value + frame::value_len(fetch.head);
+    *unit = frame::encode_frame(edition, fetch.head, &source[fetch.value..end]);
+    placing::place_copied(kind, by, n.cursor.at, fetch.head, places);
     let next = Cursor {
         index: 0,
-        at: c.at,
+        at: n.cursor.at,
         id: fetch.id,
         source: fetch.source,
-        size: frame::frame_len(edition, head) as u8,
+        size: frame::frame_len(edition, fetch.head) as u8,
         off: 0,
     };
-    records::going(Stage::Copy, next, n)
+    n.going(Stage::Copy, next)
 }
 
 // The next frame to copy is put into the buffer, or the block is sealed. Of the frame to append, the kind and host bytes are given.
@@ -66,24 +62,20 @@ pub fn enter_copy(
     ensures { (f : List ℕ) → Appends kind by f → LeadsTo places.new unit.new f result
         (enter_copy blocks image.now (assemble n places.old unit.old f)) }
 {
-    let job = n.job;
-    let since = job.since;
-    let cursor = n.cursor;
-    let rest = n.rest;
     let size = flash::size_of(blocks, image.len());
-    let source = flash::block_of(image, size, rest.block);
-    let edition = Edition::from(rest.edition);
+    let source = flash::block_of(image, size, n.rest.block);
+    let edition = Edition::from(n.rest.edition);
     match fetch::next_load(
         source,
         edition,
-        rest.end,
+        n.rest.end,
         places,
-        since,
-        cursor.id,
-        cursor.source,
+        n.job.since,
+        n.cursor.id,
+        n.cursor.source,
     ) {
         Some(fetch) => load(source, fetch, n, kind, by, places, unit),
-        None => records::enter(Stage::Seal, n),
+        None => n.enter(Stage::Seal),
     }
 }
 
@@ -91,55 +83,49 @@ pub fn enter_copy(
 
 // It is refused: a stale record or image.
 pub fn stale(n: Numbers) -> Moved
-    ensures { result ≡ still (staying (Refused refusal.Stale) n) }
+    ensures { result ≡ Still (staying (Refused refusal.Stale) n) }
 {
-    moves::still(records::staying(Answer::Refused(Refusal::Stale), n))
+    Moved::Still(n.staying(Answer::Refused(Refusal::Stale)))
 }
 
 // A record in no job stays as it is.
 pub fn rests(n: Numbers) -> Moved
-    ensures { result ≡ still (staying Done n) }
+    ensures { result ≡ Still (staying Done n) }
 {
-    moves::still(records::staying(Answer::Done, n))
+    Moved::Still(n.staying(Answer::Done))
 }
 
 fn try_busy(image: &mut [u8], blocks: u8, stage: Stage, n: Numbers, byte: u8) -> Moved
-    ensures { (p u f : List ℕ) → HandsAt stage n byte u f → Steps (answered result) result.stepped.ended (reached blocks result image.new p u f)
+    ensures { (p u f : List ℕ) → HandsAt stage n byte u f → Steps (answered result) (ended_at result) (reached blocks result image.new p u f)
         image.new (step_busy blocks stage image.old (assemble n p u f)) }
 {
-    let rest = n.rest;
-    if !actions::same_shape(image.len(), blocks, rest) {
-        return stale(n);
-    }
     let next = actions::next_action(stage, n, byte);
-    if !actions::act(image, blocks, next) {
-        return stale(n);
+    if actions::same_shape(image.len(), blocks, n.rest) && actions::act(image, blocks, next) {
+        return moves::advance(stage, n);
     }
-    moves::advance(stage, n)
+    stale(n)
 }
 
 // Inner part of step_core, and of the steps over the record's bytes. It reads no array of the record: the byte in hand is given, any byte where no
 // frame is copied or appended, and the next frame is still to be loaded where one is due.
 pub fn try_step(image: &mut [u8], blocks: u8, n: Numbers, byte: u8) -> Moved
-    ensures { (p u f : List ℕ) → Hands n byte u f → Steps (answered result) result.stepped.ended (reached blocks result image.new p u f)
+    ensures { (p u f : List ℕ) → Hands n byte u f → Steps (answered result) (ended_at result) (reached blocks result image.new p u f)
         image.new (step_on blocks image.old (assemble n p u f)) }
 {
-    let phase = n.phase;
-    match phase {
-        Phase::Unmounted => return rests(n),
-        Phase::Idle => return rests(n),
-        Phase::Busy(stage) => return try_busy(image, blocks, stage, n, byte),
+    match n.phase {
+        Phase::Unmounted | Phase::Idle => rests(n),
+        Phase::Busy(stage) => try_busy(image, blocks, stage, n, byte),
     }
 }
 
 // ---- a step that the caller made
 
 fn made_busy(len: usize, blocks: u8, stage: Stage, n: Numbers) -> Moved
-    ensures { (img p u f : List ℕ) → length img ≡ len → Steps (answered result) result.stepped.ended (reached blocks result img p u f) img
+    ensures { (img p u f : List ℕ) → length img ≡ len → Steps (answered result) (ended_at result) (reached blocks result img p u f) img
         (made_in_of blocks (Busy stage) img (assemble n p u f)) }
 {
-    let rest = n.rest;
-    if actions::within_image(len, blocks, rest, actions::next_action(stage, n, 0)) {
+    let next = actions::next_action(stage, n, 0);
+    if actions::within_image(len, blocks, n.rest, next) {
         return moves::advance(stage, n);
     }
     stale(n)
@@ -148,14 +134,12 @@ fn made_busy(len: usize, blocks: u8, stage: Stage, n: Numbers) -> Moved
 // Inner part of made, by value and over bytes. The record moves on by a step made to an image of a length and so many blocks: no array of it is
 // read, nor the image.
 pub fn made_of(len: usize, blocks: u8, n: Numbers) -> Moved
-    ensures { (img p u f : List ℕ) → length img ≡ len → Steps (answered result) result.stepped.ended (reached blocks result img p u f) img
+    ensures { (img p u f : List ℕ) → length img ≡ len → Steps (answered result) (ended_at result) (reached blocks result img p u f) img
         (made_on blocks img (assemble n p u f)) }
 {
-    let phase = n.phase;
-    match phase {
-        Phase::Unmounted => return rests(n),
-        Phase::Idle => return rests(n),
-        Phase::Busy(stage) => return made_busy(len, blocks, stage, n),
+    match n.phase {
+        Phase::Unmounted | Phase::Idle => rests(n),
+        Phase::Busy(stage) => made_busy(len, blocks, stage, n),
     }
 }
 
@@ -165,20 +149,10 @@ pub fn made_of(len: usize, blocks: u8, n: Numbers) -> Moved
 pub fn in_hand(n: Numbers, unit: &[u8; BUFFER_LEN], frame: &[u8; BUFFER_LEN]) -> u8
     ensures { result ≡ in_hand n unit.now frame.now }
 {
-    let phase = n.phase;
-    let cursor = n.cursor;
-    match phase {
-        Phase::Unmounted => return 0,
-        Phase::Idle => return 0,
-        Phase::Busy(stage) => match stage {
-            Stage::Wipe => return 0,
-            Stage::Open => return 0,
-            Stage::Copy => return flash::byte_at(unit, cursor.off as usize),
-            Stage::Seal => return 0,
-            Stage::Drop => return 0,
-            Stage::Append => return flash::byte_at(frame, cursor.index as usize),
-            Stage::Close => return 0,
-        },
+    match n.phase {
+        Phase::Busy(Stage::Copy) => flash::byte_at(unit, n.cursor.off as usize),
+        Phase::Busy(Stage::Append) => flash::byte_at(frame, n.cursor.index as usize),
+        _ => 0,
     }
 }
 
@@ -194,14 +168,14 @@ pub fn load_due(
     ensures { Loads blocks image.now places.old unit.old frame.now m result
         places.new unit.new }
 {
-    let s = m.stepped;
-    if m.loads {
-        let next = s.next;
-        let kind = flash::byte_at(frame, KIND_AT);
-        let by = flash::byte_at(frame, BODY_AT);
-        return enter_copy(image, blocks, next, kind, by, places, unit);
+    match m {
+        Moved::Still(s) => s,
+        Moved::Due(n) => {
+            let kind = flash::byte_at(frame, KIND_AT);
+            let by = flash::byte_at(frame, BODY_AT);
+            enter_copy(image, blocks, n, kind, by, places, unit)
+        }
     }
-    s
 }
 
 // Inner part of step and run. A step by a record's numbers, its arrays lent. Where the job ended the frames are the caller's to clear.
@@ -228,14 +202,13 @@ pub fn step(image: &mut [u8], blocks: u8, board: Record) -> Outcome
 {
     let mut places = board.places;
     let mut unit = board.unit;
-    let frame = board.frame;
     let s = step_core(
         image,
         blocks,
         records::numbers_of(board),
         &mut places,
         &mut unit,
-        &frame,
+        &board.frame,
     );
-    records::give_back(s, places, unit, frame)
+    records::give_back(s, places, unit, board.frame)
 }

@@ -6,13 +6,12 @@ use Rattle.drive.proofs.Telling.{write_first, write_one, write_last}
 use Rattle.drive.proofs.bursts.program_all.Goals as goal
 
 pub loop-i-init : goal.loop-i-init
-loop-i-init c = (write_first c.args.image.now c.args.at c.args.bytes.now, omega arith, refl)
+loop-i-init c = (write_first c.args.image.now c.args.at c.args.bytes.now, refl)
 
 pub loop-i-preserved : goal.loop-i-preserved
 loop-i-preserved c = (
   sym (write_one c.loop-i.image c.args.at c.args.bytes.now c.loop-i.i
       c.loop-i-test.true) ∙ c.loop-i.invariant.0,
-  omega arith,
   simp length-set (omega arith),
 )
 

@@ -4,17 +4,13 @@ use Rattle.board.specs.declared.Phase.{Phase}
 use Rattle.board.specs.Drive.{next_in, next_on}
 use Rattle.job.specs.Code.{assemble}
 use Rattle.job.proofs.Advancing.{busy_hand}
+use Rattle.drive.proofs.Telling.{nothing_next}
 use Rattle.drive.proofs.calls.next_of.Goals as goal
 
 pub returns-in-Unmounted : goal.returns-in-Unmounted
 unfolding next_on
 returns-in-Unmounted c =
-    λ p u f e. sym (ap (λ (x : Phase). next_in c.args.blocks x c.args.len (assemble c.args.n p u f)) c.in-Unmounted.is)
-
-pub returns-in-Idle : goal.returns-in-Idle
-unfolding next_on
-returns-in-Idle c =
-    λ p u f e. sym (ap (λ (x : Phase). next_in c.args.blocks x c.args.len (assemble c.args.n p u f)) c.in-Idle.is)
+    λ p u f e. nothing_next c.args.blocks c.args.len (assemble c.args.n p u f) c.args.n.phase c.in-Unmounted.is
 
 pub returns-in-Busy : goal.returns-in-Busy
 unfolding next_on

@@ -1,8 +1,15 @@
 -- After a byte copied.
+use mathlib.Core.Path.{sym, ◌∙◌}
+use mathlib.Core.Bool.{true, false}
 use Rattle.job.proofs.Advancing.{copy_moves}
 use Rattle.job.proofs.moves.after_copy.Goals as goal
 
+pub returns-then-has_next : goal.returns-then-has_next
+returns-then-has_next c =
+    let e = sym c.has_next.ensures ∙ c.if-has_next.true in
+    λ N i p u f. copy_moves N i p u f c.args.n true e _ (rw (c.staying.ensures, c.next_byte-next.ensures, e))
+
 pub returns : goal.returns
 returns c =
-    λ N i p u f. rw (c.staying.ensures, c.next_byte.ensures, c.has_next.ensures)
-    (copy_moves N i p u f c.args.n)
+    let e = sym c.has_next.ensures ∙ c.if-has_next.false in
+    λ N i p u f. copy_moves N i p u f c.args.n false e _ (rw (c.next_byte-next.ensures, e))

@@ -1,8 +1,0 @@
--- The kind's low byte, by edition.
-use Rattle.job.proofs.actions.kind_low.Goals as goal
-
-pub returns-in-First : goal.returns-in-First
-returns-in-First c = rw c.in-First.is
-
-pub returns-in-Second : goal.returns-in-Second
-returns-in-Second c = rw c.in-Second.is

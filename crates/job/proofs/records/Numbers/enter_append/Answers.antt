@@ -1,0 +1,12 @@
+-- Entering the stage that appends.
+use borrow.Author.Tests.{lt-ltb, le-ltb}
+use Rattle.job.specs.Code.{go_append}
+use Rattle.job.proofs.records.Numbers.enter_append.Goals as goal
+
+pub returns-then-self-gt0 : goal.returns-then-self-gt0
+unfolding go_append
+returns-then-self-gt0 c = rw (lt-ltb _ _ c.if-self-gt0.true) c.enter.ensures
+
+pub returns : goal.returns
+unfolding go_append
+returns c = rw (le-ltb _ _ c.if-self-gt0.false) c.over.ensures
