@@ -13,8 +13,9 @@ use Rattle.frame.specs.Frame.{id_of, value_max, Frame, settled, frame_len}
 use Rattle.frame.specs.Reader.{Read, blank, whole, torn, wrong, read_frame}
 use Rattle.frame.specs.Code.{head_of, frame_of, value_len_of, value_start}
 use Rattle.frame.proofs.Heads.{frame-of-head}
-use Rattle.fetch.specs.declared.Fetched.{Fetched}
-use Rattle.fetch.specs.declared.Fetched.TheVariants as fetched
+use Rattle.std.specs.declared.option.Option as answer
+use Rattle.std.specs.Prelude.{Some, None}
+use Rattle.fetch.specs.declared.Fetch.{Fetch}
 use Rattle.journal.specs.Index.{Value, value_at, Load, load, next_settled, is_pending, next_pending, or_else, next_load_of}
 use Rattle.fetch.specs.Fetch.{or_start, fetched_of, Fetches}
 use Rattle.fetch.proofs.FrameReads.{part_same, value_there, value_inside}
@@ -100,19 +101,19 @@ module _ (ed : Edition) (b places since l : List ℕ) where
 
 -- ---- what is fetched from a part of a block is fetched from the block
 
-part_good : (b : List ℕ) (e : ℕ) (r : Fetched) (o : Option Load) → Fetches (take e b) r o → Fetches b r o
-part_good b e fetched.Nothing o h = h
-part_good b e (fetched.Frame f) o (h, k) =
+part_good : (b : List ℕ) (e : ℕ) (r : answer.Option Fetch) (o : Option Load) → Fetches (take e b) r o → Fetches b r o
+part_good b e None o h = h
+part_good b e (Some f) o (h, k) =
     let n : f.value + value_len_of f.head ≤ length (take e b) = k.0 in
     (rw (part_same f.value (value_len_of f.head) e b (omega (arith, n, length-take e b))) at h, (omega (arith, n, length-take e b), k.1))
 
 -- ---- the settled frames first, then the pending ones
 
-pub fetches : (ed : Edition) (b : List ℕ) (end : ℕ) (places since : List ℕ) (id source : ℕ) (r : Fetched)
+pub fetches : (ed : Edition) (b : List ℕ) (end : ℕ) (places since : List ℕ) (id source : ℕ) (r : answer.Option Fetch)
     → r ≡ fetched_of ed b places (next_load_of ed b end places since id source) → Fetches b r (next_load_of ed b end places since id source)
 unfolding next_load_of
 fetches ed b end places since id source r e =
-    subst (λ (x : Fetched). Fetches b x (next_load_of ed b end places since id source)) (sym e) (go (next_settled ed b places source (256 - id) id) refl)
+    subst (λ (x : answer.Option Fetch). Fetches b x (next_load_of ed b end places since id source)) (sym e) (go (next_settled ed b places source (256 - id) id) refl)
   where
     second : Option Load
     second = next_pending ed since source 0 (drop source (take end b))

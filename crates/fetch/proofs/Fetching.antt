@@ -7,7 +7,7 @@ use Prim.Native.Nat.{ℕ, zero, suc, ◌+◌, ◌-◌, ◌≤◌, ◌<◌}
 use native.Mathlib.Omega.{arith}
 use lib.Dec.{eqb}
 use lib.ListN.{length, get_or, take, drop}
-use lib.Seq.{take-length, take_all}
+use lib.Seq.{take-length}
 use borrow.Author.Tests.{ne_eqb}
 use Rattle.flash.proofs.Cases.{on_test}
 use Rattle.frame.specs.declared.Edition.{Edition}
@@ -19,9 +19,10 @@ use Rattle.frame.specs.Code.{head_of, peek_at, value_of, value_len_of, value_sta
 use Rattle.frame.proofs.Encode.{NotClosed}
 use Rattle.frame.proofs.Heads.{value_len, peek_whole}
 use Rattle.frame.proofs.Exact.{read-blank}
-use Rattle.fetch.specs.declared.Found.TheVariants as found
+use Rattle.std.specs.Prelude.{Some, None, MatchOption}
+use Rattle.std.specs.declared.option.Option as answer
+use Rattle.fetch.specs.declared.Found.{Found}
 use Rattle.fetch.specs.declared.Fetch.{Fetch}
-use Rattle.fetch.specs.declared.Fetched.TheVariants as fetched
 use Rattle.journal.specs.Index.{Value, only_if, frame_value, value_read, value_at, Load, load, next_settled, is_pending, next_pending, or_else, next_load_of}
 use Rattle.fetch.specs.Fetch.{found_of, value_from, fetched_of}
 use Rattle.fetch.specs.Fetch.{value_head, pending_head}
@@ -123,13 +124,13 @@ value_peeked ed b i p x e =
     ap value_len_of (peek_whole ed 0 p b w.0 w.1) ∙ value_len w.0 ∙ sym (ap length (value-of i p w.0 x w.2).1)
 
 -- what the code found
-pub found_none : (o : Option Value) → found_of o ≡ found.Nothing → o ≡ none
+pub found_none : (o : Option Value) → found_of o ≡ None → o ≡ none
 found_none none e = refl
-found_none (some x) e = let z : ◌≡◌ {A = ℕ} 0 1 = cc in absurd (omega arith)
+found_none (some x) e = cc
 
-pub found_at : (o : Option Value) (p n : ℕ) → found_of o ≡ found.At p n → (x : Value) × (o ≡ some x) × (x.at ≡ p) × (length x.bytes ≡ n)
-found_at none p n e = let z : ◌≡◌ {A = ℕ} 0 1 = cc in absurd (omega arith)
-found_at (some x) p n e = (x, refl, cc, cc)
+pub found_at : (o : Option Value) (y : Found) → found_of o ≡ Some y → (x : Value) × (o ≡ some x) × (x.at ≡ y.at) × (length x.bytes ≡ y.size)
+found_at none y e = cc
+found_at (some x) y e = (x, refl, cc, cc)
 
 -- ---- the next settled frame
 
@@ -244,21 +245,17 @@ module _ (ed : Edition) (b : List ℕ) (end : ℕ) (places since : List ℕ) (id
   abbrev second : Option Load
   second = next_pending ed since source 0 (drop source (take end b))
 
-  pub load_first : (x : Fetch) → fetched.Frame x ≡ fetched_of ed b places first → fetched.Frame x ≡ fetched_of ed b places all
+  -- the answer that the code takes of both
+  pub load_either : (o r : answer.Option Fetch) (S : Type 0) → o ≡ fetched_of ed b places first → MatchOption o S (λ x. r ≡ Some x)
+      → (S → r ≡ fetched_of ed b places second) → r ≡ fetched_of ed b places all
   unfolding next_load_of fetched_of
-  load_first x e = go first e
+  load_either None r S e m k = go first e
     where
-      go : (o : Option Load) → fetched.Frame x ≡ fetched_of ed b places o → fetched.Frame x ≡ fetched_of ed b places (or_else o second)
-      go none q = let z : ◌≡◌ {A = ℕ} 0 1 = cc in absurd (omega arith)
-      go (some u) q = q
-
-  pub load_part_next : fetched.Nothing ≡ fetched_of ed b places first → second ≡ all
-  unfolding next_load_of fetched_of
-  load_part_next e = go first e
+      go : (l : Option Load) → None ≡ fetched_of ed b places l → r ≡ fetched_of ed b places (or_else l second)
+      go none q = k m
+      go (some u) q = cc
+  load_either (Some x) r S e m k = go first e
     where
-      go : (o : Option Load) → fetched.Nothing ≡ fetched_of ed b places o → second ≡ or_else o second
-      go none q = refl
-      go (some u) q = let z : ◌≡◌ {A = ℕ} 0 1 = cc in absurd (omega arith)
-
-  pub load_next : fetched.Nothing ≡ fetched_of ed b places first → length b ≤ end → next_pending ed since source 0 (drop source b) ≡ all
-  load_next e l = ap (λ (x : List ℕ). next_pending ed since source 0 (drop source x)) (sym (take_all end b l)) ∙ load_part_next e
+      go : (l : Option Load) → Some x ≡ fetched_of ed b places l → r ≡ fetched_of ed b places (or_else l second)
+      go none q = cc
+      go (some u) q = m ∙ q

@@ -16,10 +16,6 @@ pub all_ff-no : (b : ℕ) (t : List ℕ) → (b ≡ 255 → ⊥) → all_ff (b �
 unfolding all_ff
 all_ff-no b t h = rw (ne_eqb b 255 h, all_ff)
 
-pub all_ff_ff : (t : List ℕ) → all_ff (255 ∷ t) ≡ all_ff t
-unfolding all_ff
-all_ff_ff t = refl
-
 pub all_ff-all : (m : ℕ) → all_ff (replicate m 255) ≡ true
 unfolding all_ff
 all_ff-all zero = refl

@@ -1,7 +1,6 @@
 pub mod Cases
 pub mod Blank
 pub mod Eights
-pub mod Stretches
 pub mod Programming
 pub mod Replaced
 pub mod Image

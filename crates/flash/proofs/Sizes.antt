@@ -1,6 +1,5 @@
 -- The size of a block, by how many there are.
 use mathlib.Core.Path.{◌≡◌, sym, ap, subst, ◌∙◌}
-use mathlib.Core.Bool.{true}
 use Prim.Native.Nat.{ℕ, ◌*◌, ◌/◌, ◌≤◌}
 use native.Mathlib.Omega.{arith}
 use native.Mathlib.Nat.{mul-div_cancel_left, mul-div-le, mul-le-mul_right, zero-mul}
@@ -8,10 +7,6 @@ use lib.Dec.{eqb}
 use borrow.Author.Tests.{eqb-true, eqb-false}
 use Rattle.flash.specs.Flash.{size_in}
 use Rattle.flash.proofs.Cases.{on_test}
-
-pub size_none : (N n : ℕ) → N ≡ 0 → 0 ≡ size_in N n
-unfolding size_in
-size_none N n e = let t : eqb N 0 ≡ true = ap (λ (k : ℕ). eqb k 0) e in rw t
 
 pub size-some : (N n : ℕ) → (N ≡ 0 → ⊥) → n / N ≡ size_in N n
 unfolding size_in

@@ -8,18 +8,17 @@ ghost use Rattle.flash.specs.Flash.{size_in, block, program_at, erase_block};
 mod slices;
 
 pub use slices::{front, get_or, rest, set_at};
+use std::ops::Range;
 
 // The most blocks that an image has.
 pub const MAX_BLOCKS: usize = 16;
 
 // The size of a block, where an image has so many; 0 where it has none.
+#[tactic(auto, unfolding(crate::specs::Flash::size_in))]
 pub fn size_of(blocks: u8, len: usize) -> usize
     ensures { result ≡ size_in blocks len }
 {
-    if blocks == 0 {
-        return 0;
-    }
-    len / blocks as usize
+    len.checked_div(usize::from(blocks)).unwrap_or(0)
 }
 
 // The byte at a place, 0 past the end.
@@ -29,110 +28,43 @@ pub fn byte_at(bytes: &[u8], i: usize) -> u8
     get_or(bytes, i, 0)
 }
 
-// Eight bytes from a place on are 0xFF: one test of what they have in common.
-fn eight_blank(s: &[u8], i: usize) -> bool
-    requires { i + 8 ≤ length s.now }
-    ensures { result ≡ all_ff (take 8 (drop i s.now)) }
-{
-    let a = s[i];
-    let b = s[i + 1];
-    let c = s[i + 2];
-    let d = s[i + 3];
-    let e = s[i + 4];
-    let f = s[i + 5];
-    let g = s[i + 6];
-    let h = s[i + 7];
-    a & (b & (c & (d & (e & (f & (g & h)))))) == 255
-}
-
-// From a place on every byte is 0xFF: one by one.
-fn rest_blank(s: &[u8], from: usize) -> bool
-    ensures { result ≡ all_ff (drop from s.now) }
-{
-    let mut i = from;
-    while i < s.len() {
-        if s[i] != 255 {
-            return false;
-        }
-        i += 1;
-    }
-    true
-}
-
 // Every byte is 0xFF: eight at a time, the last ones one by one.
 pub fn is_blank(s: &[u8]) -> bool
     ensures { result ≡ all_ff s.now }
 {
-    let n = s.len();
-    let mut i = 0;
-    while 8 <= n - i {
-        if !eight_blank(s, i) {
-            return false;
-        }
-        i += 8;
-    }
-    rest_blank(s, i)
+    let (eights, rest) = s.as_chunks::<8>();
+    eights.iter().all(|eight| *eight == [0xFF; 8]) && rest.iter().all(|byte| *byte == 0xFF)
 }
 
 // Programs one byte, where there is one: bits only clear.
 pub fn program(image: &mut [u8], at: usize, byte: u8)
     ensures { image.new ≡ program_at image.old at byte }
 {
-    if image.len() <= at {
-        return;
-    }
-    image[at] = image[at] & byte;
-}
-
-// Stores 0xFF over a whole slice.
-fn fill(s: &mut [u8])
-    ensures { s.new ≡ replicate (length s.old) 255 }
-{
-    let mut i = 0;
-    while i < s.len() {
-        s[i] = 255;
-        i += 1;
+    if at < image.len() {
+        image[at] &= byte;
     }
 }
 
-// Where a block starts, or the image's end if it isn't there.
-fn start_of(size: usize, number: usize, end: usize) -> usize
-    ensures { result ≡ min end (number * size) }
+// Where a block starts and where it ends, as far as the image goes.
+fn bounds(size: usize, number: usize, end: usize) -> Range<usize>
+    ensures start { result.start ≡ min end (number * size) }
+    ensures end { result.end ≡ result.start + min size (end - result.start) }
 {
-    if size == 0 {
-        return 0;
-    }
-    if end / size < number {
-        return end;
-    }
-    number * size
-}
-
-// As many bytes as there are from a place on, and at most a block.
-fn reach(size: usize, start: usize, end: usize) -> usize
-    requires { start ≤ end }
-    ensures { result ≡ start + min size (end - start) }
-{
-    if end - start < size {
-        return end;
-    }
-    start + size
+    let start = number.saturating_mul(size).min(end);
+    start..start + size.min(end - start)
 }
 
 // A block of the image by its size and number, as much of it as there is.
 pub fn block_of(image: &[u8], size: usize, number: u8) -> &[u8]
     ensures { result.now ≡ block size number image.now }
 {
-    let from = start_of(size, number as usize, image.len());
-    let to = reach(size, from, image.len());
-    &image[from..to]
+    &image[bounds(size, usize::from(number), image.len())]
 }
 
 // Erases one block, as much of it as there is.
 pub fn erase_block(image: &mut [u8], size: usize, number: usize)
     ensures { image.new ≡ erase_block size number image.old }
 {
-    let start = start_of(size, number, image.len());
-    let end = reach(size, start, image.len());
-    fill(&mut image[start..end]);
+    let block = bounds(size, number, image.len());
+    image[block].fill(0xFF);
 }

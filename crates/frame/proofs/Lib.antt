@@ -3,7 +3,7 @@
 -- ---- bytes of frames
 pub mod ByKind  -- each kind's bytes in the papers' numbers: to read
 pub mod Encode  -- lengths and bytes: for the files below
-pub mod Stores  -- copies and seals in a buffer: for src/bytes, wire, board
+pub mod Stores  -- seals in a buffer: for src/bytes; a copy: for wire
 -- ---- the reader
 pub mod Fit  -- bytes held against slots: for Own, Shape, Layouts, Exact
 pub mod Own  -- each kind: its length, its layout, its bytes read back: for Shape, Exact, src/reader

@@ -10,15 +10,15 @@ mod bytes;
 pub use bytes::encode_frame;
 
 // A host's number: the port that a message came in by.
-#[derive(Clone, Copy)]
+#[derive(Clone, Copy, PartialEq, Eq)]
 pub struct Host(pub u8);
 
 // An object's number. Neither number may ever stand in for the other.
-#[derive(Clone, Copy)]
+#[derive(Clone, Copy, PartialEq, Eq)]
 pub struct ObjectId(pub u16);
 
 // The fields of a frame and of a block's header, by which a fault is told.
-#[derive(Clone, Copy)]
+#[derive(Clone, Copy, PartialEq, Eq)]
 pub enum Field {
     Length,
     Kind,
@@ -32,14 +32,14 @@ pub enum Field {
 }
 
 // The editions of the format: in the second each frame has a CRC-32.
-#[derive(Clone, Copy)]
+#[derive(Clone, Copy, PartialEq, Eq)]
 pub enum Edition {
     First,
     Second,
 }
 
 // The first bad field, and its offset in the block.
-#[derive(Clone, Copy)]
+#[derive(Clone, Copy, PartialEq, Eq)]
 pub struct Fault {
     pub field: Field,
     pub place: usize,
@@ -81,7 +81,7 @@ pub const RESET_LEN: u8 = 5;
 pub const BUFFER_LEN: usize = PUT_LEN as usize + 4 + VALUE_MAX;
 
 // A frame without its value's bytes: how many there are.
-#[derive(Clone, Copy)]
+#[derive(Clone, Copy, PartialEq, Eq)]
 pub enum Head {
     Put(Host, ObjectId, u8),
     Delete(Host, ObjectId),
@@ -112,23 +112,27 @@ pub fn check_len(edition: Edition) -> u8
 }
 
 // An edition's number.
-pub fn edition_number(edition: Edition) -> u8
-    ensures { result ≡ edition_number edition }
-{
-    match edition {
-        Edition::First => 1,
-        Edition::Second => 2,
+impl From<Edition> for u8 {
+    ghost from_gives = { λ edition n. n ≡ edition_number edition };
+
+    fn from(edition: Edition) -> u8 {
+        match edition {
+            Edition::First => 1,
+            Edition::Second => 2,
+        }
     }
 }
 
 // The edition that has a number: 2 is the second's, any other the first's.
-pub fn edition_by(n: u8) -> Edition
-    ensures { result ≡ edition_by n }
-{
-    if n == 2 {
-        return Edition::Second;
+impl From<u8> for Edition {
+    ghost from_gives = { λ n edition. edition ≡ edition_by n };
+
+    fn from(n: u8) -> Edition {
+        match n {
+            2 => Edition::Second,
+            _ => Edition::First,
+        }
     }
-    Edition::First
 }
 
 // The length of a frame.
@@ -139,8 +143,7 @@ pub fn frame_len(edition: Edition, head: Head) -> usize
     match head {
         Head::Put(_, _, n) => PUT_LEN as usize + check + n as usize,
         Head::Delete(_, _) => DELETE_LEN as usize + check,
-        Head::Commit(_) => END_LEN as usize + check,
-        Head::Abort(_) => END_LEN as usize + check,
+        Head::Commit(_) | Head::Abort(_) => END_LEN as usize + check,
         Head::Settled(_, n) => SETTLED_LEN as usize + check + n as usize,
         Head::Closed(n) => RESET_LEN as usize + n as usize,
         Head::Reset => RESET_LEN as usize + check,
@@ -152,13 +155,8 @@ pub fn value_len(head: Head) -> usize
     ensures { result ≡ value_len_of head }
 {
     match head {
-        Head::Put(_, _, n) => n as usize,
-        Head::Delete(_, _) => 0,
-        Head::Commit(_) => 0,
-        Head::Abort(_) => 0,
-        Head::Settled(_, n) => n as usize,
-        Head::Closed(n) => n as usize,
-        Head::Reset => 0,
+        Head::Put(_, _, n) | Head::Settled(_, n) | Head::Closed(n) => n as usize,
+        Head::Delete(_, _) | Head::Commit(_) | Head::Abort(_) | Head::Reset => 0,
     }
 }
 
@@ -168,11 +166,8 @@ pub fn value_offset(head: Head) -> usize
 {
     match head {
         Head::Put(_, _, _) => PUT_VALUE_AT,
-        Head::Delete(_, _) => 0,
-        Head::Commit(_) => 0,
-        Head::Abort(_) => 0,
         Head::Settled(_, _) => SETTLED_VALUE_AT,
         Head::Closed(_) => BODY_AT,
-        Head::Reset => 0,
+        Head::Delete(_, _) | Head::Commit(_) | Head::Abort(_) | Head::Reset => 0,
     }
 }

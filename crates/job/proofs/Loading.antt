@@ -11,8 +11,7 @@ use Rattle.frame.specs.Frame.{value_max, edition_by, frame_len, encode, buffer}
 use Rattle.frame.specs.Code.{frame_of, head_len, value_len_of}
 use Rattle.frame.proofs.Heads.{len_of}
 use Rattle.fetch.specs.declared.Fetch.{Fetch}
-use Rattle.fetch.specs.declared.Fetched.{Fetched}
-use Rattle.fetch.specs.declared.Fetched.TheVariants as fetched
+use Rattle.std.specs.Prelude.{Option, Some, None}
 use Rattle.journal.specs.Index.{next_load_of, place_copied}
 use Rattle.fetch.specs.Fetch.{load_in, load_of}
 use Rattle.board.specs.declared.Stage.TheVariants.{Copy, Seal}
@@ -53,15 +52,15 @@ load-leaves b x n fits small ed e z bytes is end made size kind by p p' u f a q 
 -- ---- what was found is what the record has next
 
 module _ (N : ℕ) (img : List ℕ) (r : Record) (b : List ℕ) (same : b ≡ block (size_of N img) r.rest.block img) (ed : Edition)
-    (is : ed ≡ reads_in r) (x : Fetched)
+    (is : ed ≡ reads_in r) (x : Option Fetch)
     (found : load_of b x ≡ next_load_of ed b r.rest.end r.places r.job.since r.cursor.id r.cursor.source) where
   next_is : next_for N img r ≡ load_of b x
   next_is =
       ap₂ (λ (d : Edition) (y : List ℕ). next_load_of d y r.rest.end r.places r.job.since r.cursor.id r.cursor.source) (sym is) (sym same)
       ∙ sym found
 
-  pub frame_found : (y : Fetch) → x ≡ fetched.Frame y → loaded r (load_in b y) ≡ enter_copy N img r
+  pub frame_found : (y : Fetch) → x ≡ Some y → loaded r (load_in b y) ≡ enter_copy N img r
   frame_found y e = sym (copy_loads N img r (load_in b y) (next_is ∙ ap (load_of b) e))
 
-  pub none_found : x ≡ fetched.Nothing → enter Seal r ≡ enter_copy N img r
+  pub none_found : x ≡ None → enter Seal r ≡ enter_copy N img r
   none_found e = sym (copy-ends N img r (next_is ∙ ap (load_of b) e))

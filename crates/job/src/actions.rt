@@ -100,7 +100,7 @@ pub fn next_action(stage: Stage, n: Numbers, byte: u8) -> Action
             return Action::Erase(wiped(wipe, cursor.index));
         }
         Stage::Open => {
-            return open_action(frame::edition_by(job.edition), job.target, cursor.index);
+            return open_action(Edition::from(job.edition), job.target, cursor.index);
         }
         Stage::Copy => return Action::Program(job.target, cursor.at as usize, byte),
         Stage::Seal => return seal_action(job.target, job.time, cursor.index),

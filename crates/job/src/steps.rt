@@ -15,8 +15,8 @@ use crate::moves::Moved;
 use crate::records::{Numbers, Stepped};
 use crate::{Outcome, actions, moves, placing, records};
 use board::{Cursor, Phase, Record, Stage};
-use fetch::{Fetch, Fetched};
-use frame::{BODY_AT, BUFFER_LEN, KIND_AT};
+use fetch::Fetch;
+use frame::{BODY_AT, BUFFER_LEN, Edition, KIND_AT};
 use wire::{Answer, Refusal};
 
 // A frame to copy is put into the buffer, and its id has a new place.
@@ -37,7 +37,7 @@ fn load(
     let start = fetch.value;
     let end = start + frame::value_len(head);
     let job = n.job;
-    let edition = frame::edition_by(job.edition);
+    let edition = Edition::from(job.edition);
     let bytes = frame::encode_frame(edition, head, &source[start..end]);
     *unit = bytes;
     let c = n.cursor;
@@ -72,7 +72,7 @@ pub fn enter_copy(
     let rest = n.rest;
     let size = flash::size_of(blocks, image.len());
     let source = flash::block_of(image, size, rest.block);
-    let edition = frame::edition_by(rest.edition);
+    let edition = Edition::from(rest.edition);
     match fetch::next_load(
         source,
         edition,
@@ -82,8 +82,8 @@ pub fn enter_copy(
         cursor.id,
         cursor.source,
     ) {
-        Fetched::Frame(fetch) => return load(source, fetch, n, kind, by, places, unit),
-        Fetched::Nothing => return records::enter(Stage::Seal, n),
+        Some(fetch) => load(source, fetch, n, kind, by, places, unit),
+        None => records::enter(Stage::Seal, n),
     }
 }
 

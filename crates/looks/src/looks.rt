@@ -143,7 +143,7 @@ fn newer(w: Newest, number: u8, s: Survey, same: bool) -> Newest
         torn: s.torn,
         pends: pends(s),
         shared: same,
-        edition: frame::edition_number(edition),
+        edition: u8::from(edition),
     }
 }
 

@@ -18,7 +18,8 @@ use Rattle.frame.specs.declared.ObjectId.{ObjectId}
 use Rattle.frame.specs.Frame.{Change, put, delete, Frame, change, commit, abort}
 use Rattle.frame.specs.Reader.{read_frame}
 use Rattle.frame.proofs.Exact.{read-blank}
-use Rattle.fetch.specs.declared.Found.TheVariants as found
+use Rattle.std.specs.Prelude.{Some, None}
+use Rattle.fetch.specs.declared.Found.{Found}
 use Rattle.journal.specs.Block.{Journal, last_time}
 use Rattle.journal.specs.Replay.{Entry, is_open_of}
 use Rattle.journal.specs.Room.{used, no_room_of, host_full}
@@ -129,19 +130,17 @@ module _ (N : ℕ) (img : List ℕ) (k : ℕ) (ok : allowed N (length img) ≡ t
       ap (take (size_of N img)) (drop_of_length-le img {i = k * size_of N img} (omega (arith, z.all, m)))
       ∙ take-nil (size_of N img)
 
-  pub found_inside : (ed : Edition) (i : ObjectId) (p at n : ℕ) → found_of (value_at ed current i p) ≡ found.At at n
-      → (k * size_of N img + at + n ≤ length img) × (length img ≤ 65536)
-  found_inside ed i p at n e =
-      let x = found_at (value_at ed current i p) at n e in
+  pub found_inside : (ed : Edition) (i : ObjectId) (p : ℕ) (y : Found) → found_of (value_at ed current i p) ≡ Some y
+      → (k * size_of N img + y.at + y.size ≤ length img) × (length img ≤ 65536)
+  found_inside ed i p y e =
+      let x = found_at (value_at ed current i p) y e in
       let z : Sized N (size_of N img) img = sized_of N img ok in
       let w = in_block ed current i p x.0 x.1 in
       on_test (ltb k N)
       (λ t. let h : k < N = ltb-true k N t in
       omega (arith, w.inside, x.2, block_length N img k ok h, sized-block k z h, z.short))
-      (λ t. let q : found.Nothing ≡ found.At at n =
-      sym (ap found_of (ap (λ (b : List ℕ). value_at ed b i p) (block_past (ltb-false k N t)) ∙ value_nil ed i p)) ∙ e in
-      let u : ◌≡◌ {A = ℕ} 0 1 = cc in
-      absurd (omega arith))
+      (λ t. let q : None ≡ Some y =
+      sym (ap found_of (ap (λ (b : List ℕ). value_at ed b i p) (block_past (ltb-false k N t)) ∙ value_nil ed i p)) ∙ e in cc)
 
 -- ---- no other request has a stretch
 

@@ -1,5 +1,5 @@
 -- What the requests do, by a survey of the current block and in the code's order of tests. proofs/ ties it to board's definitions.
-use Rattle.std.specs.Prelude.{◌≡◌, List, [], ◌∷◌, Bool, ◌&&◌, cond, ℕ, ◌+◌, ◌*◌, ◌≤◌, eqb, leb, length, get_or}
+use Rattle.std.specs.Prelude.{◌≡◌, List, [], ◌∷◌, Bool, ◌&&◌, cond, ℕ, ◌+◌, ◌*◌, ◌≤◌, eqb, leb, length, get_or, Option, Some, None}
 use Rattle.flash.specs.Bytes.{same_bytes_of}
 use Rattle.flash.specs.Flash.{block, size_of}
 use Rattle.frame.specs.declared.Host.{Host}
@@ -7,7 +7,6 @@ use Rattle.frame.specs.declared.ObjectId.{ObjectId}
 use Rattle.frame.specs.Frame.{host_max, end_len, edition_number, edition_by}
 use Rattle.survey.specs.declared.Survey.{Survey}
 use Rattle.fetch.specs.declared.Found.{Found}
-use Rattle.fetch.specs.declared.Found.TheVariants as found
 use Rattle.journal.specs.Index.{value_at}
 use Rattle.fetch.specs.Fetch.{found_of}
 use Rattle.wire.specs.declared.Answer.TheVariants.{Done, Refused}
@@ -90,9 +89,9 @@ abbrev pub nothing : Refusal → Located
 nothing why = record { answer = Refused why; at = 0; size = 0 }
 
 -- what stands at a place of a block that starts there
-abbrev pub located_at : ℕ → Found → Located
-located_at start found.Nothing = nothing refusal.Stale
-located_at start (found.At p n) = record { answer = Done; at = start + p; size = n }
+abbrev pub located_at : ℕ → Option Found → Located
+located_at start None = nothing refusal.Stale
+located_at start (Some x) = record { answer = Done; at = start + x.at; size = x.size }
 
 -- 11 by the image's shape, 8 for place 0, then 11 by the frame there
 unfoldable pub located_in : ℕ → List ℕ → Rest → ℕ → ObjectId → Located

@@ -94,7 +94,7 @@ fn as_recorded(size: usize, rest: Rest, s: Survey) -> bool
         return false;
     }
     let edition = s.edition;
-    if frame::edition_number(edition) != rest.edition {
+    if u8::from(edition) != rest.edition {
         return false;
     }
     if s.end != rest.end {

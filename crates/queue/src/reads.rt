@@ -10,8 +10,7 @@ ghost use Rattle.queue.specs.Calls.{nothing, place_in, located_in, heard_in, Fin
 use crate::gate;
 use crate::gate::Gate;
 use board::{Phase, Record, Rest};
-use fetch::Found;
-use frame::{Host, ObjectId};
+use frame::{Edition, Host, ObjectId};
 use wire::{Answer, Parsed, Refusal};
 
 // A stretch of the image.
@@ -52,16 +51,14 @@ fn at_place(image: &[u8], blocks: u8, rest: Rest, place: u16, id: ObjectId) -> L
     }
     let size = flash::size_of(blocks, image.len());
     let block = flash::block_of(image, size, rest.block);
-    let edition = frame::edition_by(rest.edition);
+    let edition = Edition::from(rest.edition);
     match fetch::value_at(block, edition, id, place) {
-        Found::Nothing => return nothing(Refusal::Stale),
-        Found::At(at, n) => {
-            return Located {
-                answer: Answer::Done,
-                at: rest.block as usize * size + at,
-                size: n as usize,
-            };
-        }
+        None => nothing(Refusal::Stale),
+        Some(found) => Located {
+            answer: Answer::Done,
+            at: rest.block as usize * size + found.at,
+            size: found.size as usize,
+        },
     }
 }
 

@@ -80,7 +80,7 @@ fn append(size: usize, rest: Rest, s: Survey, n: u8, pending: [u16; 4]) -> Stepp
         time: surveys::new_time(moves, s.time),
         since: since,
         size: n,
-        edition: frame::edition_number(edition),
+        edition: u8::from(edition),
         closes: 0,
         close: [0; 4],
     };
@@ -174,7 +174,7 @@ fn convert(rest: Rest, s: Survey) -> Stepped
         time: s.time + 1,
         since: [0; 4],
         size: 0,
-        edition: frame::edition_number(Edition::Second),
+        edition: u8::from(Edition::Second),
         closes: 0,
         close: [0; 4],
     };

@@ -5,7 +5,7 @@ ghost use Rattle.frame.specs.Frame.{reset_len, edition_by};
 ghost use Rattle.journal.specs.Block.{block_max};
 ghost use Rattle.store.specs.Mends.{noted, closes_of, torn_writes, moves_in, due_len, mend_in, reset_in};
 
-use frame::{BUFFER_LEN, FINISH, Head, RESET_LEN};
+use frame::{BUFFER_LEN, Edition, FINISH, Head, RESET_LEN};
 use job::records;
 use job::records::Stepped;
 use looks::Newest;
@@ -72,7 +72,7 @@ fn closing(block: &[u8], end: u16, torn: u16) -> Closes
 fn reset_len(edition: u8) -> u8
     ensures { (result ≡ reset_len (edition_by edition)) × (result ≤ 9) }
 {
-    RESET_LEN + frame::check_len(frame::edition_by(edition))
+    RESET_LEN + frame::check_len(Edition::from(edition))
 }
 
 // A reset is due, and goes past the block's end.
@@ -122,7 +122,7 @@ pub fn lay_reset(s: Stepped, frame: &mut [u8; BUFFER_LEN])
     let next = s.next;
     let job = next.job;
     if 0 < job.size {
-        *frame = frame::encode_frame(frame::edition_by(job.edition), Head::Reset, b"");
+        *frame = frame::encode_frame(Edition::from(job.edition), Head::Reset, b"");
         return;
     }
     *frame = records::no_frame();

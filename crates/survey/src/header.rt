@@ -64,7 +64,7 @@ fn spare_blank(block: &[u8]) -> bool
 fn is_kind(block: &[u8], edition: Edition) -> bool
     ensures { result ≡ same_bytes_of (take 2 (drop kind_at block.now)) (u16le (header_kind edition)) }
 {
-    stands(block, KIND_AT, frame::edition_number(edition), KIND_HIGH)
+    stands(block, KIND_AT, u8::from(edition), KIND_HIGH)
 }
 
 // The edition that a header's kind tells.

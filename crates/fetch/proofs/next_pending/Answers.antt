@@ -1,15 +1,11 @@
 -- The next pending frame: from where the loop stands it is the same as from the source on.
 use Rattle.frame.proofs.Heads.{value-end}
-use mathlib.Core.Path.{refl, sym, ap, ◌∙◌}
+use mathlib.Core.Path.{sym, ap, ◌∙◌}
 use native.Mathlib.Omega.{arith}
-use Rattle.fetch.proofs.HeadLaws.{no_blank, no_torn, no_wrong, skip_pending, fetch_pending}
+use Rattle.fetch.proofs.HeadLaws.{no_other, skip_pending, fetch_pending}
 use Rattle.fetch.specs.Fetch.{fetched_of}
 use Rattle.fetch.proofs.FrameReads.{read-inside}
 use Rattle.fetch.proofs.next_pending.Goals as goal
-
-pub loop-head-init : goal.loop-head-init
-unfolding fetched_of
-loop-head-init c = refl
 
 pub overflow_add-next : goal.overflow_add-next
 overflow_add-next c =
@@ -64,20 +60,8 @@ loop-head-preserved c =
     rw c.frame_len.ensures (sym (skip_pending c.args.edition c.args.since c.loop-head.at c.args.part.now _
     (sym c.read_frame.ensures ∙ c.in-Whole.is) (sym c.is_pending.ensures ∙ c.if-is_pending.false)) ∙ c.loop-head.invariant)
 
-pub returns-in-Blank : goal.returns-in-Blank
+pub returns : goal.returns
 unfolding fetched_of
-returns-in-Blank c =
-    λ b places. ap (fetched_of c.args.edition b places) (sym (no_blank c.args.edition c.args.since c.loop-head.at c.args.part.now
-    (sym c.read_frame.ensures ∙ c.in-Blank.is)) ∙ c.loop-head.invariant)
-
-pub returns-in-Torn : goal.returns-in-Torn
-unfolding fetched_of
-returns-in-Torn c =
-    λ b places. ap (fetched_of c.args.edition b places) (sym (no_torn c.args.edition c.args.since c.loop-head.at c.args.part.now _
-    (sym c.read_frame.ensures ∙ c.in-Torn.is)) ∙ c.loop-head.invariant)
-
-pub returns-in-Wrong : goal.returns-in-Wrong
-unfolding fetched_of
-returns-in-Wrong c =
-    λ b places. ap (fetched_of c.args.edition b places) (sym (no_wrong c.args.edition c.args.since c.loop-head.at c.args.part.now _
-    (sym c.read_frame.ensures ∙ c.in-Wrong.is)) ∙ c.loop-head.invariant)
+returns c =
+    λ b places. ap (fetched_of c.args.edition b places) (sym (no_other c.args.edition c.args.since c.loop-head.at c.args.part.now
+    (λ h e. c.in_default.not-Whole h (c.read_frame.ensures ∙ e))) ∙ c.loop-head.invariant)

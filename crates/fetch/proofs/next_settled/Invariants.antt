@@ -6,6 +6,3 @@ use Rattle.fetch.proofs.next_settled.Given as goal
 
 abbrev pub invariant-loop-i : goal.invariant-loop-i
 invariant-loop-i l = next_settled l.edition l.block l.places l.source (256 - l.i) l.i ≡ next_settled l.edition l.block l.places l.source (256 - l.id) l.id
-
-abbrev pub decreases-loop-i : goal.decreases-loop-i
-decreases-loop-i l = 256 - l.i

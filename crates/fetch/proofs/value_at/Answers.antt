@@ -1,7 +1,7 @@
 -- The value at a place: each return is what the read there says.
 use mathlib.Core.Path.{sym, ap, ◌∙◌}
 use Prim.Native.Nat.{ℕ}
-use Rattle.fetch.proofs.HeadLaws.{value_whole, value_blank, value_torn, value_wrong}
+use Rattle.fetch.proofs.HeadLaws.{value_whole, value_other}
 use Rattle.fetch.specs.Fetch.{found_of}
 use Rattle.journal.specs.Index.{value_at}
 use Rattle.journal.proofs.Places.{value-zero}
@@ -18,17 +18,7 @@ returns-in-Whole c =
     ∙ value_whole c.args.edition c.args.block.now c.args.id c.args.place c.if-place-eq0.false _
     (sym c.read_frame.ensures ∙ c.in-Whole.is)
 
-pub returns-in-Blank : goal.returns-in-Blank
-returns-in-Blank c =
-    value_blank c.args.edition c.args.block.now c.args.id c.args.place c.if-place-eq0.false
-    (sym c.read_frame.ensures ∙ c.in-Blank.is)
-
-pub returns-in-Torn : goal.returns-in-Torn
-returns-in-Torn c =
-    value_torn c.args.edition c.args.block.now c.args.id c.args.place c.if-place-eq0.false _
-    (sym c.read_frame.ensures ∙ c.in-Torn.is)
-
-pub returns-in-Wrong : goal.returns-in-Wrong
-returns-in-Wrong c =
-    value_wrong c.args.edition c.args.block.now c.args.id c.args.place c.if-place-eq0.false _
-    (sym c.read_frame.ensures ∙ c.in-Wrong.is)
+pub returns-in_default : goal.returns-in_default
+returns-in_default c =
+    value_other c.args.edition c.args.block.now c.args.id c.args.place c.if-place-eq0.false
+    (λ h e. c.in_default.not-Whole h (c.read_frame.ensures ∙ e))

@@ -1,40 +1,22 @@
--- The blank test: what is left from i on is blank exactly if the whole is.
-use mathlib.Core.Path.{refl, sym, ◌∙◌}
-use native.Mathlib.Omega.{arith}
-use borrow.Author.Tests.{not-true, not-false}
-use Rattle.flash.proofs.Eights.{eight_on, eight_stop}
+-- Blank: the whole eights, and what is left after them.
+use Rattle.std.proofs.Common.{true, false, sym, ap, ◌∙◌, rules, tests}
+use Rattle.std.proofs.lemmas.Iterator.{YieldsList-from_slice}
+use Rattle.std.proofs.lemmas.Iterator.Search.{all_from_yields_List}
+use Rattle.std.specs.List.{list_all}
+use Rattle.flash.specs.Bytes.{all_ff}
+use Rattle.flash.proofs.Eights.{byte_ff, eight_ff, each_ff, blank_is}
 use Rattle.flash.proofs.is_blank.Goals as goal
 
-pub loop-i-init : goal.loop-i-init
-loop-i-init c = (omega arith, refl)
+pub returns-then-all : goal.returns-then-all
+returns-then-all c =
+    let s = c.args.s.now in
+    let eights = all_from_yields_List eight_ff _ _ _ c.all.ensures.ran (YieldsList-from_slice c.as_chunks.result.0.now cc) (λ x b q k. search (rules, tests)) in
+    let rest = all_from_yields_List byte_ff _ _ _ c.all-then-all.ensures.ran (YieldsList-from_slice c.as_chunks.result.1.now cc) (λ x b q k. search (rules, tests)) in
+    rest ∙ each_ff c.as_chunks.result.1.now ∙ ap all_ff c.as_chunks.ensures.back
+    ∙ blank_is s true (sym c.if-all.true ∙ eights ∙ ap (list_all eight_ff) c.as_chunks.ensures.front)
 
-pub overflow_sub-n : goal.overflow_sub-n
-overflow_sub-n c = omega arith
-
-pub eight_blank-requires : goal.eight_blank-requires
-eight_blank-requires c = omega arith
-
-pub returns-then-not-eight_blank : goal.returns-then-not-eight_blank
-returns-then-not-eight_blank c =
-    let loop' = c.loop-i in
-    let eight' = c.eight_blank in
-    sym (eight_stop c.args.s.now loop'.i
-    (sym eight'.ensures ∙ not-true eight'.result c.if-not-eight_blank.true-raw)) ∙ loop'.invariant.1
-
-pub overflow_add-i : goal.overflow_add-i
-overflow_add-i c = omega arith
-
-pub loop-i-smaller : goal.loop-i-smaller
-loop-i-smaller c = omega arith
-
-pub loop-i-preserved : goal.loop-i-preserved
-loop-i-preserved c =
-    let loop' = c.loop-i in
-    let eight' = c.eight_blank in (
-      omega arith,
-      sym (eight_on c.args.s.now loop'.i
-          (sym eight'.ensures ∙ not-false eight'.result c.if-not-eight_blank.false-raw)) ∙ loop'.invariant.1,
-    )
-
-pub returns : goal.returns
-returns c = c.rest_blank.ensures ∙ c.loop-i.invariant.1
+pub returns-else-all : goal.returns-else-all
+returns-else-all c =
+    let s = c.args.s.now in
+    let eights = all_from_yields_List eight_ff _ _ _ c.all.ensures.ran (YieldsList-from_slice c.as_chunks.result.0.now cc) (λ x b q k. search (rules, tests)) in
+    c.if-all.false ∙ blank_is s false (sym c.if-all.false ∙ eights ∙ ap (list_all eight_ff) c.as_chunks.ensures.front)

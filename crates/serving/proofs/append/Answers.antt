@@ -15,7 +15,7 @@ returns c =
       c.next_block.ensures,
       c.new_time.ensures,
       sym c.is_worn.ensures ∙ c.if-is_worn.false,
-      c.edition_number.ensures,
+      c.from.ensures,
       c.counting.ensures,
       c.starting.ensures,
     ) (append_begun c.args.size c.args.rest c.args.s c.args.n c.args.pending c.is_worn.result c.is_worn.ensures c.if-is_worn.false)

@@ -17,4 +17,4 @@ pub returns : goal.returns
 unfolding convert_by
 returns c =
     let time' = add-one c.args.s.time in
-    c.begin.ensures ∙ rw (c.next_block.ensures, time', c.edition_number.ensures, c.starting.ensures, ne_eqb _ _ c.if-s-eq-LAST_TIME.false, convert_by)
+    c.begin.ensures ∙ rw (c.next_block.ensures, time', c.from.ensures, c.starting.ensures, ne_eqb _ _ c.if-s-eq-LAST_TIME.false, convert_by)

@@ -11,7 +11,7 @@ returns-in-Wipe c = rw (c.in-Wipe.is, c.wiped.ensures)
 pub returns-in-Open : goal.returns-in-Open
 returns-in-Open c =
     rw c.in-Open.is (c.open_action.ensures
-    ∙ ap (λ (e : Edition). write_step c.args.n.job.target (open_write e c.args.n.cursor.index)) c.edition_by.ensures)
+    ∙ ap (λ (e : Edition). write_step c.args.n.job.target (open_write e c.args.n.cursor.index)) c.from.ensures)
 
 pub returns-in-Copy : goal.returns-in-Copy
 returns-in-Copy c = rw c.in-Copy.is

@@ -13,21 +13,21 @@ use Rattle.job.proofs.steps.enter_copy.Goals as goal
 
 pub load-requires : goal.load-requires
 load-requires c =
-    subst (Inside c.block_of-source.result.now) c.in-Frame.is (fetches _ _ _ _ _ _ _ _ c.next_load.ensures).1
+    subst (Inside c.block_of-source.result.now) c.in-Some.is (fetches _ _ _ _ _ _ _ _ c.next_load.ensures).1
 
-pub returns-in-Frame : goal.returns-in-Frame
-returns-in-Frame c =
+pub returns-in-Some : goal.returns-in-Some
+returns-in-Some c =
     λ f a. subst (LeadsTo _ _ f c.load.result)
     (frame_found c.args.blocks c.args.image.now (assemble c.args.n c.args.places.now c.args.unit.now f) c.block_of-source.result.now
     (c.block_of-source.ensures ∙ ap (λ (s : ℕ). block s c.args.n.rest.block c.args.image.now) c.size_of-size.ensures)
-    c.edition_by-edition.result c.edition_by-edition.ensures c.next_load.result (fetches _ _ _ _ _ _ _ _ c.next_load.ensures).0 c.in-Frame.fetch
-    c.in-Frame.is) (c.load.ensures f a)
+    c.from-edition.result c.from-edition.ensures c.next_load.result (fetches _ _ _ _ _ _ _ _ c.next_load.ensures).0 c.in-Some.fetch
+    c.in-Some.is) (c.load.ensures f a)
 
-pub returns-in-Nothing : goal.returns-in-Nothing
-returns-in-Nothing c =
+pub returns-in-None : goal.returns-in-None
+returns-in-None c =
     λ f a. rw c.enter.ensures (subst (LeadsTo c.args.places.now c.args.unit.now f
     (going Seal (first c.args.n.cursor) c.args.n))
     (none_found c.args.blocks c.args.image.now (assemble c.args.n c.args.places.now c.args.unit.now f) c.block_of-source.result.now
     (c.block_of-source.ensures ∙ ap (λ (s : ℕ). block s c.args.n.rest.block c.args.image.now) c.size_of-size.ensures)
-    c.edition_by-edition.result c.edition_by-edition.ensures c.next_load.result (fetches _ _ _ _ _ _ _ _ c.next_load.ensures).0 c.in-Nothing.is)
+    c.from-edition.result c.from-edition.ensures c.next_load.result (fetches _ _ _ _ _ _ _ _ c.next_load.ensures).0 c.in-None.is)
     (going_leaves c.args.places.now c.args.unit.now f Seal (first c.args.n.cursor) c.args.n))

@@ -14,5 +14,5 @@ returns c =
     rw (
       sym c.takes_over.ensures ∙ not-false c.takes_over.result c.if-not-takes_over.false-raw,
       c.pends.ensures,
-      c.edition_number.ensures,
+      c.from.ensures,
     )

@@ -10,11 +10,11 @@ use Rattle.flash.specs.Bytes.{same_bytes_of}
 use Rattle.frame.specs.Frame.{end_len, edition_number}
 use Rattle.serving.specs.Calls.{open_in, claimed_in}
 use Rattle.queue.specs.Calls.{as_recorded}
-use Rattle.queue.proofs.held.as_recorded.Goals.{After-open_hosts, Else-edition_number-rest}
+use Rattle.queue.proofs.held.as_recorded.Goals.{After-open_hosts, Else-from-rest}
 use Rattle.queue.proofs.held.as_recorded.Goals as goal
 
 -- up to the edition
-before-end : (c : Else-edition_number-rest) →
+before-end : (c : Else-from-rest) →
     as_recorded c.args.size c.args.rest c.args.s
     ≡ ((eqb c.args.s.end c.args.rest.end && same_bytes_of c.args.s.pending c.args.rest.pending)
     && leb (claimed_in c.args.s + end_len c.args.s.edition * open_in c.args.s.pending) c.args.size)
@@ -23,7 +23,7 @@ before-end c =
     rw (
       sym c.is_valid.ensures ∙ not-false c.is_valid.result c.if-not-is_valid.false-raw,
       eq-eqb _ _ c.if-s-ne0.false,
-      eq-eqb (edition_number c.args.s.edition) c.args.rest.edition (sym c.edition_number.ensures ∙ c.if-edition_number-rest.false),
+      eq-eqb (edition_number c.args.s.edition) c.args.rest.edition (sym c.from.ensures ∙ c.if-from-rest.false),
       as_recorded,
     )
 
@@ -41,13 +41,13 @@ unfolding as_recorded
 returns-then-s-ne0 c =
     rw (sym c.is_valid.ensures ∙ not-false c.is_valid.result c.if-not-is_valid.false-raw, ne_eqb _ _ c.if-s-ne0.true, as_recorded)
 
-pub returns-then-edition_number-rest : goal.returns-then-edition_number-rest
+pub returns-then-from-rest : goal.returns-then-from-rest
 unfolding as_recorded
-returns-then-edition_number-rest c =
+returns-then-from-rest c =
     rw (
       sym c.is_valid.ensures ∙ not-false c.is_valid.result c.if-not-is_valid.false-raw,
       eq-eqb _ _ c.if-s-ne0.false,
-      ne_eqb (edition_number c.args.s.edition) c.args.rest.edition (λ q. c.if-edition_number-rest.true (c.edition_number.ensures ∙ q)),
+      ne_eqb (edition_number c.args.s.edition) c.args.rest.edition (λ q. c.if-from-rest.true (c.from.ensures ∙ q)),
       as_recorded,
     )
 

@@ -8,7 +8,7 @@ use Rattle.store.proofs.mends.lay_reset.Goals as goal
 pub returns-then-job-gt0 : goal.returns-then-job-gt0
 returns-then-job-gt0 c =
     rw (lt-ltb 0 c.args.s.next.job.size c.if-job-gt0.true)
-    (c.encode_frame.ensures ∙ ap (λ (e : Edition). buffer (encode e reset)) c.edition_by.ensures)
+    (c.encode_frame.ensures ∙ ap (λ (e : Edition). buffer (encode e reset)) c.from.ensures)
 
 pub returns : goal.returns
 returns c =

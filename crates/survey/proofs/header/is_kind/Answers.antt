@@ -11,4 +11,4 @@ use Rattle.survey.proofs.header.is_kind.Goals as goal
 pub returns : goal.returns
 returns c =
     let same : List ℕ → Bool = λ x. same_bytes_of (take 2 (drop 2 c.args.block.now)) x in
-    c.stands.ensures ∙ ap (λ (n : ℕ). same (n ∷ 0x4A ∷ [])) c.edition_number.ensures ∙ ap same (sym (kind-bytes c.args.edition))
+    c.stands.ensures ∙ ap (λ (n : ℕ). same (n ∷ 0x4A ∷ [])) c.from.ensures ∙ ap same (sym (kind-bytes c.args.edition))
