@@ -96,9 +96,9 @@ fn lay_words(bytes: &mut [u8], at: usize, words: &[u16])
     ensures { bytes.new ≡ laid_at at (word_bytes words.now) bytes.old }
 {
     for (i, word) in words.iter().enumerate() {
-        let pair = word.to_le_bytes();
-        bytes[at + 2 * i] = pair[0];
-        bytes[at + 2 * i + 1] = pair[1];
+        let [low, high] = word.to_le_bytes();
+        bytes[at + 2 * i] = low;
+        bytes[at + 2 * i + 1] = high;
     }
 }
 

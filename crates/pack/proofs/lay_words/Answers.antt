@@ -13,7 +13,7 @@ loop-i-init c = (no_words c.args.at c.args.words.now c.args.bytes.now, search ru
 pub loop-i-preserved : goal.loop-i-preserved
 loop-i-preserved c =
     let i = c.loop-i.i in
-    let w = c.to_le_bytes-pair.ensures ∙ word_le (get_or c.args.words.now i 0) ((c.type_inv.words i).fits) in (
+    let w = c.to_le_bytes.ensures ∙ word_le (get_or c.args.words.now i 0) ((c.type_inv.words i).fits) in (
       rw (w, c.loop-i.invariant.0) (word_more c.args.at c.args.words.now c.args.bytes.now i (omega arith) (omega (arith, c.requires))
           (sym (ap length c.loop-i.invariant.0) ∙ c.loop-i.invariant.1)),
       simp length-set c.loop-i.invariant.1,
