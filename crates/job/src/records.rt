@@ -16,7 +16,7 @@ use wire::Answer;
 // Where a block's frames start, and the last creation time.
 pub const START: u16 = HEADER_LEN as u16;
 
-pub const LAST_TIME: u32 = 4294967295;
+pub const LAST_TIME: u32 = u32::MAX;
 
 // A record without its arrays.
 #[derive(Clone, Copy)]

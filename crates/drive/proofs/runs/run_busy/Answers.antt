@@ -2,7 +2,6 @@
 use mathlib.Core.Path.{refl, ◌∙◌}
 use native.Mathlib.Omega.{arith}
 use native.Mathlib.Nat.{sub-zero}
-use borrow.Author.Rules.{rules}
 use Rattle.board.specs.Drive.{run_on_of}
 use Rattle.job.specs.Code.{assemble}
 use Rattle.drive.proofs.Running.{run_again, run_ends, run_stops, run_spent}
@@ -10,18 +9,6 @@ use Rattle.drive.proofs.runs.run_busy.Goals as goal
 
 pub loop-steps-init : goal.loop-steps-init
 loop-steps-init c = (rw sub-zero, c.requires, omega arith, refl)
-
-pub overflow_add-steps : goal.overflow_add-steps
-overflow_add-steps c =
-    let a = c.burst-b.ensures.0 in let t = c.loop-steps-test.true in let g = c.well_formed in search rules
-
-pub overflow_add-steps-in-More : goal.overflow_add-steps-in-More
-overflow_add-steps-in-More c =
-    let a = c.burst-b.ensures.0 in let t = c.loop-steps-test.true in let g = c.well_formed in search rules
-
-pub loop-steps-smaller : goal.loop-steps-smaller
-loop-steps-smaller c =
-    omega (arith, c.loop-steps-test.true)
 
 pub loop-steps-preserved : goal.loop-steps-preserved
 loop-steps-preserved c =
@@ -33,36 +20,12 @@ loop-steps-preserved c =
     let a = c.burst-b.ensures.0 in
     let t = c.loop-steps-test.true in (x.0, x.1, omega arith, c.step_core-s.auto.image ∙ c.burst-b.auto.image ∙ c.loop-steps.invariant.3)
 
-pub overflow_add-result : goal.overflow_add-result
-overflow_add-result c =
-    let a = c.burst-b.ensures.0 in let t = c.loop-steps-test.true in let g = c.well_formed in search rules
-
-pub overflow_add-result-in-Done : goal.overflow_add-result-in-Done
-overflow_add-result-in-Done c =
-    let a = c.burst-b.ensures.0 in let t = c.loop-steps-test.true in let g = c.well_formed in search rules
-
-pub shape_of-image-in-Done : goal.shape_of-image-in-Done
-shape_of-image-in-Done c =
-    c.step_core-s.auto.image
-    ∙ c.burst-b.auto.image
-    ∙ c.loop-steps.invariant.3
-
 pub returns-in-Done : goal.returns-in-Done
 returns-in-Done c =
     run_ends c.args.blocks (run_on_of c.args.blocks c.args.most c.args.image.now
     (assemble c.args.n c.args.places.now c.args.unit.now c.args.frame.now))
     c.args.most c.loop-steps.steps c.burst-b.result.steps c.loop-steps.image (assemble c.loop-steps.m c.loop-steps.places c.loop-steps.unit c.args.frame.now) _ _ c.loop-steps-test.true c.burst-b.ensures.0 c.loop-steps.invariant.0 c.loop-steps.invariant.1 (c.burst-b.ensures.1 c.loop-steps.places)
     c.step_core-s.result _ _ c.args.frame.now _ c.step_core-s.ensures c.in-Done.is
-
-pub overflow_add-result-in-Refused : goal.overflow_add-result-in-Refused
-overflow_add-result-in-Refused c =
-    let a = c.burst-b.ensures.0 in let t = c.loop-steps-test.true in let g = c.well_formed in search rules
-
-pub shape_of-image-in-Refused : goal.shape_of-image-in-Refused
-shape_of-image-in-Refused c =
-    c.step_core-s.auto.image
-    ∙ c.burst-b.auto.image
-    ∙ c.loop-steps.invariant.3
 
 pub returns-in-Refused : goal.returns-in-Refused
 returns-in-Refused c =
