@@ -11,7 +11,6 @@ use lib.Seq.{get_or-set_same, get_or-set_other}
 use borrow.Author.Tests.{eqb-true, eqb-false, eq-eqb, ne_eqb, lt-ltb, le-ltb, le-leb, lt-leb, ltb-true, ltb-false}
 use Rattle.flash.specs.Flash.{max_blocks, numbers_from}
 use Rattle.flash.proofs.Cases.{on_test}
-use Rattle.frame.specs.Frame.{edition_number}
 use Rattle.journal.specs.Block.{Journal, BlockState, blank, in_progress, valid, foreign, time_in, torn_len}
 use Rattle.survey.specs.Survey.{kind_in, survey_of, places_in}
 use Rattle.wire.specs.declared.Refusal.{Refusal}
@@ -78,7 +77,7 @@ newer-is : (x : Store) (xs : List Store) {w : Option Newest} {m same : Bool} →
       torn = torn_len x.journal.tail;
       pends = m;
       shared = same;
-      edition = edition_number x.journal.edition;
+      edition = x.journal.edition;
     }))
     w ≡ newest_in (x ∷ xs)
 newer-is x xs e f g = rw (e, f, g) (newest-more x xs)

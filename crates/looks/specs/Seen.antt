@@ -1,7 +1,6 @@
 -- What one look at the blocks of an image keeps of them, and the lists of blocks to erase.
 use Rattle.std.specs.Prelude.{◌≡◌, List, [], ◌∷◌, Bool, true, false, ◌&&◌, ◌||◌, cond, ℕ, suc, eqb, leb, length, get_or, drop, set, replicate, Option, Some, None}
 use Rattle.flash.specs.Flash.{max_blocks, block_numbers}
-use Rattle.frame.specs.Frame.{edition_number}
 use Rattle.survey.specs.declared.Survey.{Survey}
 use Rattle.journal.specs.Replay.{Entry}
 use Rattle.journal.specs.Block.{torn_len}
@@ -58,7 +57,7 @@ kept_of x same =
       torn = torn_len x.journal.tail;
       pends = some_of (replay_of x.journal).pending;
       shared = same;
-      edition = edition_number x.journal.edition;
+      edition = x.journal.edition;
     }
 
 -- of the valid block with the largest time, if one is valid
@@ -117,7 +116,7 @@ newer w k s same =
       torn = s.torn;
       pends = pends_in s;
       shared = same;
-      edition = edition_number s.edition;
+      edition = s.edition;
     }))
     w
 

@@ -7,6 +7,7 @@ ghost use Rattle.looks.specs.Seen.{takes_over, newer, same_above, seeing, none_s
 use crate::image::Image;
 use crate::surveys;
 use flash::MAX_BLOCKS;
+use frame::Edition;
 use job::records;
 use survey::{BlockKind, Survey};
 use wire::Refusal;
@@ -23,8 +24,7 @@ pub struct Newest {
     pub pends: bool,
     // another valid block has its time
     pub shared: bool,
-    // its edition's number
-    pub edition: u8,
+    pub edition: Edition,
 }
 
 #[derive(Clone, Copy)]
@@ -75,7 +75,7 @@ fn newer(newest: Option<Newest>, number: u8, s: Survey, shared: bool) -> Option<
         torn: s.torn,
         pends: 0 < surveys::sum(s.pending),
         shared,
-        edition: u8::from(s.edition),
+        edition: s.edition,
     })
 }
 

@@ -97,4 +97,4 @@ module _ {b : List ℕ} (x : Store) (h : Contents b x.journal) where
 
   pub mend_is : (same : Bool) → mend_in b (kept_of x same) ≡ mend_for (upkeep (length b) x) b j
   unfolding mend_in
-  mend_is same = rw (edition-back j.edition) (by_pending (replay_of j).pending refl)
+  mend_is same = by_pending (replay_of j).pending refl

@@ -192,7 +192,7 @@ module _ (N l : ℕ) (w : Newest) (es : Erases) (m : Mend) where
   plan_at t = record (mount_plan N w es m) { time = t }
 
   abbrev begun : ℕ → Stepped
-  begun t = begins (rest N l w.number m.end w.edition) (plan_at t) (starting 0 w.end)
+  begun t = begins (rest N l w.number m.end (edition_number w.edition)) (plan_at t) (starting 0 w.end)
 
   pub mount_worn : (e : Refusal) → next_time m.moves w.time ≡ Err e → Err e ≡ mount_in N l w es m
   unfolding mount_in

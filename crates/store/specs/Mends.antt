@@ -31,11 +31,11 @@ torn_writes b at n = cond (eqb n 0) [] (changing b (closing at n))
 
 -- a reset is due and doesn't fit in a block of s bytes
 abbrev pub moves_in : ℕ → Newest → Bool
-moves_in s w = w.pends && ltb s (w.end + w.torn + reset_len (edition_by w.edition))
+moves_in s w = w.pends && ltb s (w.end + w.torn + reset_len w.edition)
 
 -- the length of the reset that is due, 0 for none
 abbrev pub due_len : Newest → ℕ
-due_len w = cond w.pends (reset_len (edition_by w.edition)) 0
+due_len w = cond w.pends (reset_len w.edition) 0
 
 -- what is done with the block, whose bytes are b
 unfoldable pub mend_in : List ℕ → Newest → Mend

@@ -1,6 +1,7 @@
 -- Mount and format by what a look at the blocks kept, in the code's order of tests.
 use Rattle.std.specs.Prelude.{List, [], ◌∷◌, ◌++◌, Bool, true, false, ◌&&◌, cond, ℕ, ◌-◌, eqb, ltb, length, Option, Some, None, Result, Ok, Err}
 use Rattle.flash.specs.Flash.{block_numbers, block, size_of}
+use Rattle.frame.specs.Frame.{edition_number}
 use Rattle.journal.specs.Block.{last_time}
 use Rattle.wire.specs.declared.Refusal.{Refusal}
 use Rattle.wire.specs.declared.Refusal.TheVariants as refusal
@@ -29,7 +30,7 @@ mount_plan N w l m =
       time = new_time m.moves w.time;
       since = zero_each;
       size = m.size;
-      edition = w.edition;
+      edition = edition_number w.edition;
       closes = m.closes.count;
       close = m.closes.items;
     }
@@ -38,7 +39,7 @@ mount_plan N w l m =
 unfoldable pub mount_in : ℕ → ℕ → Newest → Erases → Mend → Result Stepped Refusal
 mount_in N l w es m =
     cond (m.moves && eqb w.time last_time) (Err refusal.Worn)
-    (Ok (begins (rest N l w.number m.end w.edition) (mount_plan N w es m) (starting 0 w.end)))
+    (Ok (begins (rest N l w.number m.end (edition_number w.edition)) (mount_plan N w es m) (starting 0 w.end)))
 
 -- on an image
 abbrev pub mount_taken : ℕ → List ℕ → Newest → List ℕ → Result Stepped Refusal

@@ -1,7 +1,7 @@
 // What a mount does with the block that is taken: a torn frame closed and a reset appended, or a transfer.
 ghost use Rattle.std.specs.Prelude.{◌≡◌, suc, ◌+◌, ◌≤◌, ◌<◌};
 ghost use Rattle.flash.specs.Flash.{write};
-ghost use Rattle.frame.specs.Frame.{reset_len, edition_by};
+ghost use Rattle.frame.specs.Frame.{reset_len};
 ghost use Rattle.journal.specs.Block.{block_max};
 ghost use Rattle.store.specs.Mends.{noted, closes_of, torn_writes, moves_in, due_len, mend_in, reset_in};
 
@@ -51,11 +51,11 @@ fn closing(block: &[u8], end: u16, torn: u16) -> Closes
     closes
 }
 
-// The length of a reset, by its edition's number.
-fn reset_len(edition: u8) -> u8
-    ensures { (result ≡ reset_len (edition_by edition)) × (result ≤ 9) }
+// The length of a reset.
+fn reset_len(edition: Edition) -> u8
+    ensures { (result ≡ reset_len edition) × (result ≤ 9) }
 {
-    RESET_LEN + frame::check_len(Edition::from(edition))
+    RESET_LEN + frame::check_len(edition)
 }
 
 // A reset is due, and goes past the block's end.

@@ -70,12 +70,12 @@ fn mount_at(blocks: u8, last: u16, w: Newest, list: Erases, m: Mend) -> Result<S
         target: image::next_block(blocks, w.number),
         time: surveys::next_time(m.moves, w.time)?,
         size: m.size,
-        edition: w.edition,
+        edition: u8::from(w.edition),
         closes: m.closes.count,
         close: m.closes.items,
         ..records::no_job()
     };
-    let rest = records::standing(blocks, last, w.number, m.end, w.edition);
+    let rest = records::standing(blocks, last, w.number, m.end, u8::from(w.edition));
     Ok(records::begin(rest, job, records::starting(0, w.end)))
 }
 

@@ -11,5 +11,5 @@ returns-in_err-next_time c =
 
 pub returns : goal.returns
 returns c =
-    rw (c.begin.ensures, c.next_block.ensures, c.standing-rest.ensures, c.starting.ensures, c.no_job.ensures)
+    rw (c.begin.ensures, c.next_block.ensures, c.standing-rest.ensures, c.from.ensures, c.from-2.ensures, c.starting.ensures, c.no_job.ensures)
     (mount_begun c.args.blocks c.args.last c.args.w c.args.list c.args.m _ (sym c.in_ok-next_time.ensures))
