@@ -94,7 +94,7 @@ pub fn mount_in_place(image: &[u8], blocks: u8, board: &mut Record) -> Answer
     out.answer
 }
 
-// A format, likewise.
+// A format, likewise: two calls of one form stand apart, since a function that is given which to call is no shorter.
 pub fn format_in_place(image: &[u8], blocks: u8, board: &mut Record) -> Answer
     ensures { (let o : Out = format_on blocks image.now in (result ≡ o.answer) × (board.new ≡ o.board)) }
 {
@@ -103,24 +103,20 @@ pub fn format_in_place(image: &[u8], blocks: u8, board: &mut Record) -> Answer
     out.answer
 }
 
-// ---- for callers that hold the record by value: the record stands in a local, which is lent
+// ---- for callers that hold the record by value: it is lent here
 
-pub fn step_lent(image: &mut [u8], blocks: u8, board: Record) -> Outcome
+pub fn step_lent(image: &mut [u8], blocks: u8, mut board: Record) -> Outcome
     ensures { (let o : Out = step_on blocks image.old board in
         (image.new ≡ o.image) × (result.answer ≡ o.answer) × (result.board ≡ o.board)) }
 {
-    let mut held = board;
-    let answer = step_in_place(image, blocks, &mut held);
-    Outcome {
-        answer,
-        board: held,
-    }
+    let answer = step_in_place(image, blocks, &mut board);
+    Outcome { answer, board }
 }
 
 pub fn request_lent(
     image: &[u8],
     blocks: u8,
-    board: Record,
+    mut board: Record,
     host: Host,
     message: &[u8],
     reply: &mut [u8],
@@ -128,10 +124,6 @@ pub fn request_lent(
     ensures { (let o : Out = request_on (asking blocks image.now board host message.now reply.old) in
         (result.answer ≡ o.answer) × (result.board ≡ o.board) × (reply.new ≡ o.reply)) }
 {
-    let mut kept = board;
-    let answer = request_in_place(image, blocks, &mut kept, host, message, reply);
-    Outcome {
-        answer,
-        board: kept,
-    }
+    let answer = request_in_place(image, blocks, &mut board, host, message, reply);
+    Outcome { answer, board }
 }

@@ -1,5 +1,5 @@
-// What the programs that run the store share: a call with its steps, and a line that says what it came to. What is printed goes
-// by the kit's `io`, whose calls can't fail: the macros of std need a handle and may fail, and no function here may.
+// What the programs that run the store share: a call with its steps, and a line that says what it came to. They print by the
+// kit's io: std's print! can fail, which no function here may, and would assume more functions of C.
 #![tactic(auto)]
 
 ghost use Rattle.std.specs.Prelude.{◌≡◌, ◌∷◌, [], ◌++◌, take, drop};
@@ -212,7 +212,7 @@ impl Bench {
         self.went(begun, [0xEE; 16], 65536)
     }
 
-    // A format, with so many steps at most.
+    // A format, with so many steps at most. It and the mount are of one form: a function that is given which to call is no shorter.
     pub fn format(self, most: usize) -> Bench
         ensures { result ≡ call_on self most (format_on self.blocks (image_of self)) fresh }
     {
