@@ -98,7 +98,10 @@ impl Seen {
         requires { number < max_blocks }
         ensures { result ≡ same_above number s self.now.times }
     {
-        surveys::is_valid(s.kind) && self.times[usize::from(number) + 1..].contains(&s.time)
+        surveys::is_valid(s.kind)
+            && self.times[usize::from(number) + 1..]
+                .iter()
+                .any(|time| *time == s.time)
     }
 
     // One block more, below those seen so far.
