@@ -68,12 +68,6 @@ judged_progress : (x : Survey) (t : List ℕ) → x ≡ empty_survey kind.InProg
 judged_progress x t u v = (ap Ok (u ∙ empty-progress.survey), v ∙ empty-progress.places)
 
 -- what the code then gives back
-pub ok_right : (s : BlockState) (x : Survey) → Ok x ≡ verdict s → x ≡ survey_of s
-ok_right blank x e = cc
-ok_right in_progress x e = cc
-ok_right (valid j) x e = cc
-ok_right (foreign f) x e = cc
-
 pub err_right : (s : BlockState) (f : Fault) (x : Survey) (t : List ℕ) → Err f ≡ verdict s → x ≡ empty_survey (kind.Foreign f) → t ≡ replicate 256 0
     → (x ≡ survey_of s) × (t ≡ places_in s)
 err_right blank f x t e u v = cc
