@@ -5,7 +5,9 @@ use mathlib.Core.Bool.{Bool, true, false, true≢false, cond}
 use Prim.Native.Nat.{ℕ}
 use lib.ListN.{length}
 use borrow.Author.Tests.{eq-eqb}
+use Rattle.std.specs.Prelude.{Option}
 use Rattle.flash.proofs.Cases.{on_test}
+use Rattle.frame.specs.declared.Host.{Host}
 use Rattle.wire.specs.declared.Answer.{Answer}
 use Rattle.wire.specs.declared.Answer.TheVariants.{More}
 use Rattle.wire.specs.Answer.{edge_number}
@@ -28,11 +30,11 @@ use Rattle.edge.proofs.Buffers.{filled}
 use Rattle.edge.proofs.Kept.{Keeps}
 
 -- a frame loaded from the buffer's own arrays
-pub frame-loaded : (N : ℕ) (img : List ℕ) (n : Numbers) (kind by : ℕ) (b after places unit placed laid : List ℕ) (s : Stepped)
-    → Appends kind by (record_in b).frame → places ≡ (record_in b).places → unit ≡ (record_in b).unit
-    → ((f : List ℕ) → Appends kind by f → LeadsTo placed laid f s (enter_copy N img (assemble n places unit f)))
+pub frame-loaded : (N : ℕ) (img : List ℕ) (n : Numbers) (c : Option Host) (b after places unit placed laid : List ℕ) (s : Stepped)
+    → Appends c (record_in b).frame → places ≡ (record_in b).places → unit ≡ (record_in b).unit
+    → ((f : List ℕ) → Appends c f → LeadsTo placed laid f s (enter_copy N img (assemble n places unit f)))
     → Holds (loaded_in s placed laid b) b after → Holds (enter_copy N img (over n b)) b after
-frame-loaded N img n kind by b after places unit placed laid s ends ep eu h w =
+frame-loaded N img n c b after places unit placed laid s ends ep eu h w =
     let g = rw (ep, eu) at (h (record_in b).frame ends) in subst (λ (r : Record). Holds r b after) g.gives w
 
 -- the whole: a step, or a step that was made
