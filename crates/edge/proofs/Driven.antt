@@ -1,7 +1,7 @@
 -- Steps on the record's bytes: what the parts of the code came to is what the definitions say.
 use mathlib.Core.Path.{◌≡◌, sym, ap, subst, ◌∙◌}
 use mathlib.Core.List.{List, []}
-use mathlib.Core.Bool.{Bool, true, false, true≢false, cond}
+use mathlib.Core.Bool.{Bool, cond}
 use Prim.Native.Nat.{ℕ}
 use lib.ListN.{length}
 use borrow.Author.Tests.{eq-eqb}
@@ -11,7 +11,6 @@ use Rattle.frame.specs.declared.Host.{Host}
 use Rattle.wire.specs.declared.Answer.{Answer}
 use Rattle.wire.specs.declared.Answer.TheVariants.{More}
 use Rattle.wire.specs.Answer.{edge_number}
-use Rattle.board.specs.declared.Phase.{Phase}
 use Rattle.board.specs.declared.Record.{Record}
 use Rattle.board.specs.Record.{Out}
 use Rattle.board.specs.Step.{enter_copy, step_on}
@@ -19,10 +18,9 @@ use Rattle.board.specs.Drive.{made_on}
 use Rattle.job.specs.declared.records.Numbers.{Numbers}
 use Rattle.job.specs.declared.records.Stepped.{Stepped}
 use Rattle.job.specs.declared.moves.Moved.{Moved}
-use Rattle.job.specs.declared.moves.Moved.TheVariants.{Still, Due}
 use Rattle.job.specs.Code.{assemble, LeadsTo, Appends, answered, ended_at, Steps}
 use Rattle.lent.specs.Layout.{record_size, record_in, record_bytes, record_into}
-use Rattle.pack.specs.Code.{loaded_in, left_in, Holds, changes}
+use Rattle.pack.specs.Code.{loaded_in, Holds, changes}
 use Rattle.midframe.specs.Code.{Made}
 use Rattle.edge.specs.Edge.{guarded, written, edge_step, edge_made, ReadsBack}
 use Rattle.edge.specs.Code.{over, reached_in, Went, DoesStep}

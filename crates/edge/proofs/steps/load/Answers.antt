@@ -6,4 +6,4 @@ use Rattle.edge.proofs.steps.load.Goals as goal
 pub returns : goal.returns
 returns c =
     frame-loaded c.args.blocks c.args.image.now c.args.n _ c.args.board.now _ _ _ _ _ c.enter_copy-s.result
-    (rw (c.committer.ensures, c.append_byte-kind.ensures, c.append_byte.ensures) refl) c.places-places.ensures c.unit-unit.ensures c.enter_copy-s.ensures c.write_loaded.ensures
+    (rw (c.committer-committer.ensures, c.append_byte-kind.ensures, c.append_byte.ensures) refl) c.places-places.ensures c.unit-unit.ensures c.enter_copy-s.ensures c.write_loaded.ensures
