@@ -1,15 +1,16 @@
 -- Steps on the record's bytes: what the parts of the code came to is what the definitions say.
 use mathlib.Core.Path.{◌≡◌, sym, ap, subst, ◌∙◌}
 use mathlib.Core.List.{List, []}
-use mathlib.Core.Bool.{Bool, true, false, true≢false, cond}
+use mathlib.Core.Bool.{Bool, cond}
 use Prim.Native.Nat.{ℕ}
 use lib.ListN.{length}
 use borrow.Author.Tests.{eq-eqb}
+use Rattle.std.specs.Prelude.{Option}
 use Rattle.flash.proofs.Cases.{on_test}
+use Rattle.frame.specs.declared.Host.{Host}
 use Rattle.wire.specs.declared.Answer.{Answer}
 use Rattle.wire.specs.declared.Answer.TheVariants.{More}
 use Rattle.wire.specs.Answer.{edge_number}
-use Rattle.board.specs.declared.Phase.{Phase}
 use Rattle.board.specs.declared.Record.{Record}
 use Rattle.board.specs.Record.{Out}
 use Rattle.board.specs.Step.{enter_copy, step_on}
@@ -17,10 +18,9 @@ use Rattle.board.specs.Drive.{made_on}
 use Rattle.job.specs.declared.records.Numbers.{Numbers}
 use Rattle.job.specs.declared.records.Stepped.{Stepped}
 use Rattle.job.specs.declared.moves.Moved.{Moved}
-use Rattle.job.specs.declared.moves.Moved.TheVariants.{Still, Due}
 use Rattle.job.specs.Code.{assemble, LeadsTo, Appends, answered, ended_at, Steps}
 use Rattle.lent.specs.Layout.{record_size, record_in, record_bytes, record_into}
-use Rattle.pack.specs.Code.{loaded_in, left_in, Holds, changes}
+use Rattle.pack.specs.Code.{loaded_in, Holds, changes}
 use Rattle.midframe.specs.Code.{Made}
 use Rattle.edge.specs.Edge.{guarded, written, edge_step, edge_made, ReadsBack}
 use Rattle.edge.specs.Code.{over, reached_in, Went, DoesStep}
@@ -28,11 +28,11 @@ use Rattle.edge.proofs.Buffers.{filled}
 use Rattle.edge.proofs.Kept.{Keeps}
 
 -- a frame loaded from the buffer's own arrays
-pub frame-loaded : (N : ℕ) (img : List ℕ) (n : Numbers) (kind by : ℕ) (b after places unit placed laid : List ℕ) (s : Stepped)
-    → Appends kind by (record_in b).frame → places ≡ (record_in b).places → unit ≡ (record_in b).unit
-    → ((f : List ℕ) → Appends kind by f → LeadsTo placed laid f s (enter_copy N img (assemble n places unit f)))
+pub frame-loaded : (N : ℕ) (img : List ℕ) (n : Numbers) (c : Option Host) (b after places unit placed laid : List ℕ) (s : Stepped)
+    → Appends c (record_in b).frame → places ≡ (record_in b).places → unit ≡ (record_in b).unit
+    → ((f : List ℕ) → Appends c f → LeadsTo placed laid f s (enter_copy N img (assemble n places unit f)))
     → Holds (loaded_in s placed laid b) b after → Holds (enter_copy N img (over n b)) b after
-frame-loaded N img n kind by b after places unit placed laid s ends ep eu h w =
+frame-loaded N img n c b after places unit placed laid s ends ep eu h w =
     let g = rw (ep, eu) at (h (record_in b).frame ends) in subst (λ (r : Record). Holds r b after) g.gives w
 
 -- the whole: a step, or a step that was made

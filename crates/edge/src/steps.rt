@@ -20,10 +20,10 @@ fn load(image: &[u8], blocks: u8, n: Numbers, board: &mut [u8])
     ensures { Holds (enter_copy blocks image.now (over n board.old)) board.old board.new }
 {
     let kind = unpack::append_byte(board, KIND_AT);
-    let by = unpack::append_byte(board, BODY_AT);
+    let committer = job::committer(kind, unpack::append_byte(board, BODY_AT));
     let mut places = unpack::places(board);
     let mut unit = unpack::unit(board);
-    let s = job::enter_copy(image, blocks, n, kind, by, &mut places, &mut unit);
+    let s = job::enter_copy(image, blocks, n, committer, &mut places, &mut unit);
     pack::write_loaded(s, &places, &unit, board);
 }
 

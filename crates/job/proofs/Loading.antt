@@ -1,13 +1,16 @@
 -- The next frame to copy: where it lies, its bytes in the buffer, and the record that has it.
 use mathlib.Core.Path.{◌≡◌, refl, sym, ap, ap₂, ◌∙◌}
+use mathlib.Core.Bool.{Bool, true, false, ◌&&◌, cond}
+use lib.Dec.{eqb}
 use mathlib.Core.List.{List}
 use Prim.Native.Nat.{ℕ, ◌+◌, ◌-◌, ◌≤◌}
 use native.Mathlib.Omega.{arith}
-use lib.ListN.{length, take, drop, length-take, length-drop}
+use lib.ListN.{length, take, drop, get_or, length-take, length-drop}
 use lib.Seq.{take_all}
 use Rattle.flash.specs.Flash.{block, size_of}
 use Rattle.frame.specs.declared.Edition.{Edition}
-use Rattle.frame.specs.Frame.{value_max, edition_by, frame_len, encode, buffer}
+use Rattle.frame.specs.declared.Host.{Host}
+use Rattle.frame.specs.Frame.{Frame, kind_at, body_at, value_max, edition_by, frame_len, encode, buffer}
 use Rattle.frame.specs.Code.{frame_of, head_len, value_len_of}
 use Rattle.frame.proofs.Heads.{len_of}
 use Rattle.fetch.specs.declared.Fetch.{Fetch}
@@ -24,13 +27,19 @@ use Rattle.job.specs.Code.{assemble, staged, going, LeadsTo, ends_by, Appends}
 
 -- ---- a frame by its head
 
+-- the host whose commit it is, and the two bytes themselves
+committed : (t : Bool) (k o : ℕ) (g : Frame) (p : List ℕ)
+    → place_copied (ends_by (cond t (Some (record { 0 = k })) None)) o g p ≡ place_copied (λ h. t && eqb k h.0) o g p
+committed true k o g p = refl
+committed false k o g p = refl
+
 pub load-leaves : (b : List ℕ) (x : Fetch) (n : Numbers) → x.value + value_len_of x.head ≤ length b → value_len_of x.head ≤ value_max →
     (ed : Edition) (e z : ℕ) (bytes : List ℕ) → ed ≡ edition_by n.job.edition
     → e ≡ x.value + value_len_of x.head → bytes ≡ buffer (encode ed (frame_of x.head (take value_max (take (e - x.value) (drop x.value b)))))
-    → z ≡ head_len ed x.head → (kind by : ℕ) (p p' u f : List ℕ) → Appends kind by f
-    → ((v : List ℕ) → p' ≡ place_copied (ends_by kind by) n.cursor.at (frame_of x.head v) p)
+    → z ≡ head_len ed x.head → (c : Option Host) (p p' u f : List ℕ) → Appends c f
+    → ((v : List ℕ) → p' ≡ place_copied (ends_by c) n.cursor.at (frame_of x.head v) p)
     → LeadsTo p' bytes f (going Copy (cursor 0 n.cursor.at x.id x.source z 0) n) (loaded (assemble n p u f) (load_in b x))
-load-leaves b x n fits small ed e z bytes is end made size kind by p p' u f a q =
+load-leaves b x n fits small ed e z bytes is end made size c p p' u f a q =
     let k : e - x.value ≡ value_len_of x.head = omega arith in
     let v : List ℕ = take (value_len_of x.head) (drop x.value b) in
     let l : length v ≡ value_len_of x.head = simp (length-take, length-drop) (omega arith) in
@@ -46,7 +55,8 @@ load-leaves b x n fits small ed e z bytes is end made size kind by p p' u f a q 
           (size ∙ ap (λ (d : Edition). head_len d x.head) is ∙ len_of (edition_by n.job.edition) x.head v l) w
           ∙ ap (λ (t : List ℕ). copying (frame_len (edition_by n.job.edition) (frame_of x.head v)) t
           (buffer (encode (edition_by n.job.edition) (frame_of x.head v))))
-          (q v ∙ ap₂ (λ (i j : ℕ). place_copied (ends_by i j) n.cursor.at (frame_of x.head v) p) a.0 a.1);
+          (q v ∙ ap (λ (i : Option Host). place_copied (ends_by i) n.cursor.at (frame_of x.head v) p) a
+          ∙ committed (eqb (get_or f kind_at 0) 3) (get_or f body_at 0) n.cursor.at (frame_of x.head v) p);
     }
 
 -- ---- what was found is what the record has next

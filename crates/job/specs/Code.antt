@@ -1,5 +1,5 @@
 -- What the code's parts do: a record's numbers by themselves, its arrays apart.
-use Rattle.std.specs.Prelude.{◌≡◌, List, Bool, true, false, ◌&&◌, cond, ℕ, suc, ◌+◌, eqb, ltb, get_or}
+use Rattle.std.specs.Prelude.{◌≡◌, List, Bool, true, false, ◌&&◌, cond, ℕ, suc, ◌+◌, eqb, ltb, get_or, Option, Some, None}
 use Rattle.flash.specs.Flash.{Step, program, erase, apply, size_in, size_of, within, write_step}
 use Rattle.frame.specs.declared.Host.{Host}
 use Rattle.frame.specs.Frame.{edition_by, kind_at, body_at}
@@ -209,13 +209,18 @@ Hands n b unit frame = HandsIn n.phase n b unit frame
 
 -- ---- whose commit the job ends with
 
--- a frame of this kind and host byte is a host's commit: `board/Step: ends_with`
-abbrev pub ends_by : ℕ → ℕ → Host → Bool
-ends_by kind by h = eqb kind 3 && eqb by h.0
+-- the host whose commit a frame of this kind and host byte is
+abbrev pub committer : ℕ → ℕ → Option Host
+committer kind by = cond (eqb kind 3) (Some (record { 0 = by })) None
 
--- the frame to append has these two bytes
-abbrev pub Appends : ℕ → ℕ → List ℕ → Type 0
-Appends kind by frame = (kind ≡ get_or frame kind_at 0) × (by ≡ get_or frame body_at 0)
+-- it is this host: `board/Step: ends_with`
+abbrev pub ends_by : Option Host → Host → Bool
+ends_by (Some g) h = eqb g.0 h.0
+ends_by None h = false
+
+-- of the frame to append
+abbrev pub Appends : Option Host → List ℕ → Type 0
+Appends c frame = c ≡ committer (get_or frame kind_at 0) (get_or frame body_at 0)
 
 -- ---- a step that loads no frame yet
 

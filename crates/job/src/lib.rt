@@ -13,6 +13,7 @@ pub use actions::{
 };
 use board::Record;
 pub use moves::Moved;
+pub use placing::committer;
 pub use steps::{enter_copy, in_hand, load_due, made_of, step, step_core, try_step};
 use wire::Answer;
 

@@ -17,7 +17,7 @@ use crate::records::{Numbers, Stepped};
 use crate::{Outcome, actions, moves, placing, records};
 use board::{Cursor, Phase, Record, Stage};
 use fetch::Fetch;
-use frame::{BODY_AT, BUFFER_LEN, Edition, KIND_AT};
+use frame::{BODY_AT, BUFFER_LEN, Edition, Host, KIND_AT};
 use wire::{Answer, Refusal};
 
 // A frame to copy is put into the buffer, and its id has a new place.
@@ -25,19 +25,18 @@ fn load(
     source: &[u8],
     fetch: Fetch,
     n: Numbers,
-    kind: u8,
-    by: u8,
+    committer: Option<Host>,
     places: &mut [u16; 256],
     unit: &mut [u8; BUFFER_LEN],
 ) -> Stepped
     requires { (fetch.value + value_len_of fetch.head ≤ length source.now) × (value_len_of fetch.head ≤ value_max) }
-    ensures { (f : List ℕ) → Appends kind by f → LeadsTo places.new unit.new f result
+    ensures { (f : List ℕ) → Appends committer f → LeadsTo places.new unit.new f result
         (loaded (assemble n places.old unit.old f) (load_in source.now fetch)) }
 {
     let edition = Edition::from(n.job.edition);
     let end = fetch.value + frame::value_len(fetch.head);
     *unit = frame::encode_frame(edition, fetch.head, &source[fetch.value..end]);
-    placing::place_copied(kind, by, n.cursor.at, fetch.head, places);
+    placing::place_copied(committer, n.cursor.at, fetch.head, places);
     let next = Cursor {
         index: 0,
         at: n.cursor.at,
@@ -49,17 +48,16 @@ fn load(
     n.going(Stage::Copy, next)
 }
 
-// The next frame to copy is put into the buffer, or the block is sealed. Of the frame to append, the kind and host bytes are given.
+// The next frame to copy is put into the buffer, or the block is sealed. Given is whose commit the frame to append is.
 pub fn enter_copy(
     image: &[u8],
     blocks: u8,
     n: Numbers,
-    kind: u8,
-    by: u8,
+    committer: Option<Host>,
     places: &mut [u16; 256],
     unit: &mut [u8; BUFFER_LEN],
 ) -> Stepped
-    ensures { (f : List ℕ) → Appends kind by f → LeadsTo places.new unit.new f result
+    ensures { (f : List ℕ) → Appends committer f → LeadsTo places.new unit.new f result
         (enter_copy blocks image.now (assemble n places.old unit.old f)) }
 {
     let size = flash::size_of(blocks, image.len());
@@ -74,7 +72,7 @@ pub fn enter_copy(
         n.cursor.id,
         n.cursor.source,
     ) {
-        Some(fetch) => load(source, fetch, n, kind, by, places, unit),
+        Some(fetch) => load(source, fetch, n, committer, places, unit),
         None => n.enter(Stage::Seal),
     }
 }
@@ -171,9 +169,8 @@ pub fn load_due(
     match m {
         Moved::Still(s) => s,
         Moved::Due(n) => {
-            let kind = flash::byte_at(frame, KIND_AT);
-            let by = flash::byte_at(frame, BODY_AT);
-            enter_copy(image, blocks, n, kind, by, places, unit)
+            let committer = placing::committer(frame[KIND_AT], frame[BODY_AT]);
+            enter_copy(image, blocks, n, committer, places, unit)
         }
     }
 }

@@ -16,4 +16,4 @@ returns c =
     λ f a. rw c.going.ensures (load-leaves c.args.source.now c.args.fetch c.args.n c.requires.0 c.requires.1
     c.from-edition.result (c.args.fetch.value + c.value_len.result) c.frame_len.result c.encode_frame.result c.from-edition.ensures
     (ap (λ (k : ℕ). c.args.fetch.value + k) c.value_len.ensures) c.encode_frame.ensures c.frame_len.ensures
-    c.args.kind c.args.by c.args.places.now _ c.args.unit.now f a c.place_copied.ensures)
+    c.args.committer c.args.places.now _ c.args.unit.now f a c.place_copied.ensures)
