@@ -24,7 +24,7 @@ use Rattle.job.specs.declared.records.Stepped.{Stepped}
 use Rattle.job.specs.Code.{at_rest_of, fits}
 use Rattle.queue.specs.declared.reads.Stretch.{Stretch}
 use Rattle.looks.specs.Surveys.{is_valid}
-use Rattle.serving.specs.Calls.{refused, open_in, claimed_in, Asks}
+use Rattle.serving.specs.Calls.{open_in, claimed_in, Asks}
 
 -- ---- before a request is served
 
@@ -75,11 +75,6 @@ asked_of a b = asking a.blocks a.image (alike a.board b) a.host a.message a.repl
 -- what it came to, for every such record; where no job began the arrays that were lent hold nothing of use
 abbrev pub Asked : Asking → Stepped → Left → Type 0
 Asked a s l = (b : Record) → let o : Out = request_on (asked_of a b) in Asks (asked_of a b).board l.places l.frame s o × (l.reply ≡ o.reply)
-
--- a refusal leaves the record idle, where it stands
-abbrev pub begun_or : Rest → Result Stepped Refusal → Stepped
-begun_or z (Ok s) = s
-begun_or z (Err why) = refused why z
 
 -- ---- a read by its place, document 02, K8
 

@@ -3,8 +3,8 @@ ghost use Rattle.std.specs.Prelude.{◌≡◌};
 ghost use Rattle.board.specs.Record.{resting, Out};
 ghost use Rattle.board.specs.Queue.{asking, request_on};
 ghost use Rattle.job.specs.Code.{outcome};
-ghost use Rattle.serving.specs.Calls.{kept_or};
-ghost use Rattle.queue.specs.Calls.{left, Asked, begun_or};
+ghost use Rattle.serving.specs.Calls.{kept_or, begun_or};
+ghost use Rattle.queue.specs.Calls.{left, Asked};
 
 use crate::{gate, held, reads};
 use board::{Phase, Record, Rest};
@@ -62,7 +62,7 @@ fn try_request(
         return Err(Refusal::Stale);
     }
     let ask = wire::parse(message).ok_or(Refusal::Malformed)?;
-    Ok(serving::serve(block, rest, host, message, reply, s, places, frame, ask))
+    serving::serve(block, rest, host, message, reply, s, places, frame, ask)
 }
 
 // A request by the record's phase, where it stands and its places. Where a job began the answer is more, and the arrays that are lent have

@@ -1,5 +1,5 @@
 -- What the requests do, by a survey of the current block and in the code's order of tests. proofs/ ties it to board's definitions.
-use Rattle.std.specs.Prelude.{◌≡◌, List, Bool, true, ◌&&◌, ◌||◌, cond, ℕ, ◌+◌, ◌*◌, eqb, ltb, length, get_or, set, take}
+use Rattle.std.specs.Prelude.{◌≡◌, Result, Ok, Err, List, Bool, true, ◌&&◌, ◌||◌, cond, ℕ, ◌+◌, ◌*◌, eqb, ltb, length, get_or, set, take}
 use Rattle.frame.specs.declared.Edition.{Edition}
 use Rattle.frame.specs.declared.Edition.TheVariants as edition
 use Rattle.frame.specs.declared.Host.{Host}
@@ -35,6 +35,11 @@ done z = at_rest_of Done Idle z
 
 abbrev pub refused : Refusal → Rest → Stepped
 refused n z = at_rest_of (Refused n) Idle z
+
+-- what began, or a refusal, which leaves the record idle where it stands
+abbrev pub begun_or : Rest → Result Stepped Refusal → Stepped
+begun_or z (Ok s) = s
+begun_or z (Err why) = refused why z
 
 -- the record after it: as it was, unless a job began
 abbrev pub kept_or : Answer → Record → Numbers → List ℕ → List ℕ → Record

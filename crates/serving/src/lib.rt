@@ -8,7 +8,7 @@ ghost use Rattle.frame.specs.Code.{frame_of};
 ghost use Rattle.journal.specs.Block.{block_max};
 ghost use Rattle.wire.specs.Message.{parse};
 ghost use Rattle.board.specs.Record.{counting};
-ghost use Rattle.serving.specs.Calls.{done, refused, append_in, change_in, end_in, committed, log_in, convert_in, convert_by};
+ghost use Rattle.serving.specs.Calls.{done, refused, begun_or, append_in, change_in, end_in, committed, log_in, convert_in, convert_by};
 ghost use Rattle.serving.specs.Calls.{serve_in, places_by, reply_in, reply_log, bytes_of, frame_in};
 
 pub mod room;
@@ -16,7 +16,7 @@ pub mod room;
 use board::{Job, Phase, Rest};
 use frame::{BUFFER_LEN, Edition, Head, Host, ObjectId};
 use job::records;
-use job::records::{LAST_TIME, Stepped};
+use job::records::Stepped;
 use looks::{image, surveys};
 use survey::Survey;
 use wire::{Answer, Page, Refusal, Request};
@@ -50,43 +50,45 @@ fn counting(rest: Rest, pending: [u16; 4]) -> Rest
 
 // A frame of n bytes appended, after a transfer if it goes past the block's end. With it the hosts have so much pending.
 #[tactic(auto, unfolding(crate::specs::Calls::append_in))]
-fn append(size: usize, rest: Rest, s: Survey, n: u8, pending: [u16; 4]) -> Stepped
-    ensures { result ≡ append_in size rest s n pending }
+fn append(size: usize, rest: Rest, s: Survey, n: u8, pending: [u16; 4]) -> Result<Stepped, Refusal>
+    ensures { begun_or rest result ≡ append_in size rest s n pending }
 {
     let moves = size < rest.end as usize + n as usize;
-    if surveys::is_worn(moves, s.time) {
-        return refused(Refusal::Worn, rest);
-    }
+    let time = surveys::next_time(moves, s.time)?;
     let since = s.since;
     let job = Job {
         moves,
         drops: true,
         target: image::next_block(rest.blocks, rest.block),
-        time: surveys::new_time(moves, s.time),
+        time,
         since,
         size: n,
         edition: u8::from(s.edition),
         ..records::no_job()
     };
-    records::begin(
-        counting(rest, pending),
-        job,
-        records::starting(0, records::START),
-    )
+    let started = records::starting(0, records::START);
+    Ok(records::begin(counting(rest, pending), job, started))
 }
 
 // A put or delete, which leaves so much besides.
 #[tactic(auto, unfolding(crate::specs::Calls::change_in))]
-fn serve_change(size: u16, rest: Rest, s: Survey, host: Host, n: u8, spare: u8) -> Stepped
-    ensures { result ≡ change_in size rest s host n spare }
+fn serve_change(
+    size: u16,
+    rest: Rest,
+    s: Survey,
+    host: Host,
+    n: u8,
+    spare: u8,
+) -> Result<Stepped, Refusal>
+    ensures { begun_or rest result ≡ change_in size rest s host n spare }
 {
     let room = size as usize;
     let bytes = fetch::of_host(s.pending, host) as usize + n as usize;
     if room < 2 * bytes {
-        return refused(Refusal::HostFull, rest);
+        return Err(Refusal::HostFull);
     }
     if room::no_room(room, s, host, n, spare) {
-        return refused(Refusal::NoRoom, rest);
+        return Err(Refusal::NoRoom);
     }
     append(
         room,
@@ -99,11 +101,11 @@ fn serve_change(size: u16, rest: Rest, s: Survey, host: Host, n: u8, spare: u8) 
 
 // A commit or an abort: with nothing pending it is done at once.
 #[tactic(auto, unfolding(crate::specs::Calls::end_in))]
-fn serve_end(size: usize, rest: Rest, s: Survey, host: Host) -> Stepped
-    ensures { result ≡ end_in size rest s host }
+fn serve_end(size: usize, rest: Rest, s: Survey, host: Host) -> Result<Stepped, Refusal>
+    ensures { begun_or rest result ≡ end_in size rest s host }
 {
     if fetch::of_host(s.pending, host) == 0 {
-        return done(rest);
+        return Ok(done(rest));
     }
     append(
         size,
@@ -115,66 +117,76 @@ fn serve_end(size: usize, rest: Rest, s: Survey, host: Host) -> Stepped
 }
 
 // A commit. Its list is applied to the places, unless a transfer is to place what it copies.
-fn serve_commit(block: &[u8], rest: Rest, s: Survey, host: Host, places: &mut [u16; 256]) -> Stepped
+fn serve_commit(
+    block: &[u8],
+    rest: Rest,
+    s: Survey,
+    host: Host,
+    places: &mut [u16; 256],
+) -> Result<Stepped, Refusal>
     requires { (s.end ≤ length block.now) × (length block.now ≤ block_max) }
-    ensures { (result ≡ end_in (length block.now) rest s host)
-        × (places.new ≡ committed block.now s host result places.old) }
+    ensures { (begun_or rest result ≡ end_in (length block.now) rest s host)
+        × (places.new ≡ committed block.now s host (begun_or rest result) places.old) }
 {
-    let begun = serve_end(block.len(), rest, s, host);
+    let begun = serve_end(block.len(), rest, s, host)?;
     if !begun.ended && !begun.next.job.moves {
         survey::commit(block, s, host, places);
     }
-    begun
+    Ok(begun)
 }
 
 #[tactic(auto, unfolding(crate::specs::Calls::log_in, wire::specs::Code::page_into))]
-fn serve_log(size: u16, rest: Rest, s: Survey, page: Page, reply: &mut [u8]) -> Stepped
-    ensures { (result ≡ log_in rest reply.old) × (reply.new ≡ reply_log size s reply.old) }
+fn serve_log(
+    size: u16,
+    rest: Rest,
+    s: Survey,
+    page: Page,
+    reply: &mut [u8],
+) -> Result<Stepped, Refusal>
+    ensures { (begun_or rest result ≡ log_in rest reply.old) × (reply.new ≡ reply_log size s reply.old) }
 {
     match page {
         Page::Summary => {
             if reply.len() < 14 {
-                return refused(Refusal::ShortReply, rest);
+                return Err(Refusal::ShortReply);
             }
             wire::write_page(reply, s.time, s.count, s.used, size);
-            done(rest)
+            Ok(done(rest))
         }
     }
 }
 
 // A transfer takes the store to the second edition. Nothing is pending: it starts to look for pending frames at the end.
 #[tactic(auto, unfolding(crate::specs::Calls::convert_by))]
-fn convert(rest: Rest, s: Survey) -> Stepped
-    ensures { result ≡ convert_by rest s edition.First }
+fn convert(rest: Rest, s: Survey) -> Result<Stepped, Refusal>
+    ensures { begun_or rest result ≡ convert_by rest s edition.First }
 {
-    if s.time == LAST_TIME {
-        return refused(Refusal::Worn, rest);
-    }
+    let time = surveys::next_time(true, s.time)?;
     let job = Job {
         moves: true,
         drops: true,
         target: image::next_block(rest.blocks, rest.block),
-        time: s.time + 1,
+        time,
         edition: u8::from(Edition::Second),
         ..records::no_job()
     };
-    records::begin(rest, job, records::starting(0, s.end))
+    Ok(records::begin(rest, job, records::starting(0, s.end)))
 }
 
 // With something pending a store stays as it is.
 #[tactic(auto, unfolding(crate::specs::Calls::convert_in, crate::specs::Calls::convert_by))]
-fn serve_convert(size: usize, rest: Rest, s: Survey) -> Stepped
-    ensures { result ≡ convert_in size rest s }
+fn serve_convert(size: usize, rest: Rest, s: Survey) -> Result<Stepped, Refusal>
+    ensures { begun_or rest result ≡ convert_in size rest s }
 {
     if 0 < surveys::sum(s.pending) {
-        return refused(Refusal::Pending, rest);
+        return Err(Refusal::Pending);
     }
     if size < room::used_second(s) {
-        return refused(Refusal::NoRoom, rest);
+        return Err(Refusal::NoRoom);
     }
     match s.edition {
         Edition::First => convert(rest, s),
-        Edition::Second => done(rest),
+        Edition::Second => Ok(done(rest)),
     }
 }
 
@@ -217,11 +229,11 @@ pub fn serve(
     places: &mut [u16; 256],
     frame: &mut [u8; BUFFER_LEN],
     ask: Request,
-) -> Stepped
+) -> Result<Stepped, Refusal>
     requires { (parse message.now ≡ Some ask) × (s.end ≤ length block.now) × (length block.now ≤ block_max) }
-    ensures { (result ≡ serve_in (length block.now) rest reply.old host message.now s ask)
+    ensures { (begun_or rest result ≡ serve_in (length block.now) rest reply.old host message.now s ask)
         × (reply.new ≡ reply_in (length block.now) s reply.old ask)
-        × (places.new ≡ places_by block.now s host result ask places.old)
+        × (places.new ≡ places_by block.now s host (begun_or rest result) ask places.old)
         × (frame.new ≡ frame_in s.edition host message.now ask frame.old) }
 {
     let n = room::change_len(s.edition);
@@ -237,7 +249,7 @@ pub fn serve(
         Request::Delete(_) => serve_change(size, rest, s, host, n, 0),
         Request::Commit => serve_commit(block, rest, s, host, places),
         Request::Abort => serve_end(room, rest, s, host),
-        Request::Read(_) => done(rest),
+        Request::Read(_) => Ok(done(rest)),
         Request::Log(page) => serve_log(size, rest, s, page, reply),
         Request::Convert => serve_convert(room, rest, s),
     }

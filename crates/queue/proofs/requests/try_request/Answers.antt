@@ -9,7 +9,8 @@ use Rattle.board.specs.declared.Record.{Record}
 use Rattle.board.specs.Record.{resting, idle}
 use Rattle.board.specs.Queue.{Asking, asking}
 use Rattle.board.proofs.Outcomes.{request_stale, request_malformed}
-use Rattle.queue.specs.Calls.{alike, begun_or, answering}
+use Rattle.serving.specs.Calls.{begun_or}
+use Rattle.queue.specs.Calls.{alike, answering}
 use Rattle.queue.proofs.Asking.{passed, passed_on, malformed_is, shut, Looked, looked, current_is, not_same, not_fresh, was_fresh}
 use Rattle.queue.proofs.Handing.{refused_all, held-alike, survey_fits, served_reply, served_asks}
 use Rattle.queue.proofs.Finding.{heard_by, read_asks}
