@@ -8,8 +8,7 @@ use native.Mathlib.Omega.{arith}
 use lib.Dec.{eqb, leb}
 use lib.ListN.{length}
 use borrow.Author.Tests.{ne_eqb}
-use Rattle.std.specs.Prelude.{⊤, Some, None, Result, Ok, Err, IsErrAnd, ok_or}
-use Rattle.std.proofs.lemmas.Result.{err_from_is_err_and}
+use Rattle.std.specs.Prelude.{⊤, Some, None, Result, Ok, Err, ok_or}
 use Rattle.flash.specs.Bytes.{Bytes, same_bytes_of}
 use Rattle.flash.specs.Flash.{block, size_of}
 use Rattle.flash.proofs.Blank.{bytes_of}
@@ -43,10 +42,7 @@ use Rattle.looks.proofs.Transfers.{cut_not}
 use Rattle.serving.specs.Calls.{open_in, claimed_in}
 use Rattle.serving.proofs.Rooms.{claimed_is, open_is}
 
--- ---- refusals that a `?` passes on
-
-pub passed_on : {T : Type 0} (r : Result T Refusal) (why : Refusal) → IsErrAnd r (λ y. y ≡ why) → r ≡ Err why
-passed_on r why e = let p = err_from_is_err_and r e in p.1 ∙ ap Err p.2
+-- ---- a message that asks for nothing
 
 pub malformed_is : (o : Parsed) (why : Refusal) → ◌≡◌ {A = Result Request Refusal} (Err why) (ok_or o refusal.Malformed)
     → (o ≡ None) × (why ≡ refusal.Malformed)
