@@ -1,9 +1,7 @@
 // What a survey tells.
-ghost use Rattle.std.specs.Prelude.{◌≡◌, ◌&&◌, ◌≤◌, eqb};
-ghost use Rattle.journal.specs.Block.{last_time};
-ghost use Rattle.looks.specs.Surveys.{is_valid, sum_of, time_for, next_time};
+ghost use Rattle.std.specs.Prelude.{◌≡◌, ◌≤◌};
+ghost use Rattle.looks.specs.Surveys.{is_valid, sum_of, next_time};
 
-use job::records::LAST_TIME;
 use survey::BlockKind;
 use wire::Refusal;
 
@@ -19,20 +17,6 @@ pub fn sum(p: [u16; 4]) -> usize
 {
     let [a, b, c, d] = p;
     usize::from(a) + usize::from(b) + usize::from(c) + usize::from(d)
-}
-
-// A transfer is needed, and there is no later time.
-pub fn is_worn(moves: bool, time: u32) -> bool
-    ensures { result ≡ (moves && eqb time last_time) }
-{
-    moves && time == LAST_TIME
-}
-
-// The creation time of the block that is made; 0 for none, also where there is no later time.
-pub fn new_time(moves: bool, time: u32) -> u32
-    ensures { result ≡ time_for moves time }
-{
-    next_time(moves, time).unwrap_or(0)
 }
 
 // The creation time of the block that is made, 0 for none; or there is no later one.

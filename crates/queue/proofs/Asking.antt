@@ -8,10 +8,10 @@ use native.Mathlib.Omega.{arith}
 use lib.Dec.{eqb, leb}
 use lib.ListN.{length}
 use borrow.Author.Tests.{ne_eqb}
-use Rattle.std.specs.Prelude.{⊤, Some, None, Result, Ok, Err, IsErrAnd, ok_or}
-use Rattle.std.proofs.lemmas.Result.{err_from_is_err_and}
+use Rattle.std.specs.Prelude.{⊤, Some, None, Result, Ok, Err, ok_or}
 use Rattle.flash.specs.Bytes.{Bytes, same_bytes_of}
 use Rattle.flash.specs.Flash.{block, size_of}
+use Rattle.flash.proofs.Blank.{bytes_of}
 use Rattle.flash.proofs.Cases.{on_test, and_no-left}
 use Rattle.flash.proofs.Image.{bytes-block}
 use Rattle.frame.specs.declared.Host.{Host}
@@ -35,16 +35,14 @@ use Rattle.board.specs.Mount.{end_of, counts_of}
 use Rattle.board.specs.Queue.{same_image, held, held_by_of, held_in_of, held_if, fits_record, request_on, Asking, refuse_to}
 use Rattle.board.proofs.Outcomes.{request_length, request_host, request-in}
 use Rattle.queue.specs.Calls.{gate_in, gate_of, as_recorded}
-use Rattle.looks.proofs.Images.{block_fits}
+use Rattle.looks.specs.declared.image.Image.{Image}
+use Rattle.looks.proofs.Images.{block_length, block_fits}
 use Rattle.queue.proofs.Images.{same_inside}
 use Rattle.looks.proofs.Transfers.{cut_not}
 use Rattle.serving.specs.Calls.{open_in, claimed_in}
 use Rattle.serving.proofs.Rooms.{claimed_is, open_is}
 
--- ---- refusals that a `?` passes on
-
-pub passed_on : {T : Type 0} (r : Result T Refusal) (why : Refusal) → IsErrAnd r (λ y. y ≡ why) → r ≡ Err why
-passed_on r why e = let p = err_from_is_err_and r e in p.1 ∙ ap Err p.2
+-- ---- a message that asks for nothing
 
 pub malformed_is : (o : Parsed) (why : Refusal) → ◌≡◌ {A = Result Request Refusal} (Err why) (ok_or o refusal.Malformed)
     → (o ≡ None) × (why ≡ refusal.Malformed)
@@ -94,6 +92,11 @@ module _ (a : Asking) (why : Refusal) where
       (λ b. phase_shut a.board.phase refl t b (rw (t, b, gate_of) at e))
       (λ b. rw (← same-why refusal.HostRange why (rw (t, b, gate_of) at e)) (request_host a t b)))
       (λ t. rw (← same-why refusal.ImageLength why (rw (t, gate_of) at e)) (request_length a t))
+
+-- an image that the gate hands back
+pub opened : {N : ℕ} {img : List ℕ} {p : Phase} {h : Host} (i : Image) → (i.bytes.now ≡ img) × (i.blocks ≡ N) × (gate_of N (length img) p h ≡ Ok tt)
+    → Passed i.blocks (length i.bytes.now) p h
+opened i (e, f, g) = passed i.blocks (length i.bytes.now) _ _ tt (rw (e, f) g)
 
 -- ---- the block itself
 
@@ -148,56 +151,55 @@ unfolding held
 not_same N img r e = ap (λ (t : Bool). held_by_of N t img r) e
 
 -- the image has the record's shape, and its block was surveyed
-pub record Looked (N : ℕ) (img : List ℕ) (r : Record) (size : ℕ) (b : List ℕ) (s : Survey) (t : List ℕ) : Type 0 where
-  pub bytes : Bytes img
-  pub ok : allowed N (length img) ≡ true
-  pub same : same_image N img r ≡ true
-  pub sized : size ≡ size_of N img
-  pub block_is : b ≡ block size r.rest.block img
+pub record Looked (i : Image) (r : Record) (b : List ℕ) (s : Survey) (t : List ℕ) : Type 0 where
+  pub same : same_image i.blocks i.bytes.now r ≡ true
+  pub block_is : b ≡ block (size_of i.blocks i.bytes.now) r.rest.block i.bytes.now
   pub survey : s ≡ survey_of (state_of b)
   pub places : t ≡ places_in (state_of b)
 
-pub looked : {N : ℕ} {img : List ℕ} {r : Record} {size : ℕ} {b : List ℕ} {s : Survey} {t : List ℕ} → Bytes img → allowed N (length img) ≡ true
-    → same_image N img r ≡ true → size ≡ size_of N img → b ≡ block size r.rest.block img
-    → (s ≡ survey_of (state_of b)) × (t ≡ places_in (state_of b)) → Looked N img r size b s t
-looked y o e n h (u, v) = record { bytes = y; ok = o; same = e; sized = n; block_is = h; survey = u; places = v }
+module _ {i : Image} {r : Record} {b : List ℕ} {s : Survey} {t : List ℕ} (l : Looked i r b s t) where
+  abbrev N : ℕ
+  N = i.blocks
 
-module _ {N : ℕ} {img : List ℕ} {r : Record} {size : ℕ} {b : List ℕ} {s : Survey} {t : List ℕ} (l : Looked N img r size b s t) where
+  abbrev img : List ℕ
+  img = i.bytes.now
+
   abbrev current : List ℕ
   current = block (size_of N img) r.rest.block img
 
-  pub current_is : b ≡ current
-  current_is = l.block_is ∙ ap (λ (n : ℕ). block n r.rest.block img) l.sized
-
   looks : (header_len ≤ length current) × (length current ≤ 32768)
-  looks = block_fits N img r.rest.block l.ok (same_inside N img r l.same)
+  looks = block_fits N img r.rest.block i.is_allowed (same_inside N img r l.same)
+
+  sized : length b ≡ size_of N img
+  sized = ap length l.block_is ∙ block_length N img r.rest.block i.is_allowed (same_inside N img r l.same)
 
   state_is : state_of b ≡ block_state current
-  state_is = half_fits b (rw current_is looks) ∙ ap block_state current_is
+  state_is = half_fits b (rw l.block_is looks) ∙ ap block_state l.block_is
 
   held_is : (o : Option Journal) → held_in_of (size_of N img) r (block_state current) ≡ o → held N img r ≡ o
   unfolding held
   held_is o q = ap (λ (u : Bool). held_by_of N u img r) l.same ∙ q
 
   here_holds : Holding (size_of N img) r (block_state current)
-  here_holds = holding (size_of N img) r current (block_state current) refl (bytes-block (size_of N img) r.rest.block img l.bytes) looks.0
+  here_holds = holding (size_of N img) r current (block_state current) refl
+      (bytes-block (size_of N img) r.rest.block img (bytes_of img i.are_bytes)) looks.0
 
-  fresh_is : fresh size r s t ≡ fresh (size_of N img) r (survey_of (block_state current)) (places_in (block_state current))
+  fresh_is : fresh (length b) r s t ≡ fresh (size_of N img) r (survey_of (block_state current)) (places_in (block_state current))
   fresh_is =
-      ap₂ (λ (n : ℕ) (x : Survey). fresh n r x t) l.sized (l.survey ∙ ap survey_of state_is)
+      ap₂ (λ (n : ℕ) (x : Survey). fresh n r x t) sized (l.survey ∙ ap survey_of state_is)
       ∙ ap (fresh (size_of N img) r (survey_of (block_state current))) (l.places ∙ ap places_in state_is)
 
   truth : true ≡ false → ⊥
   truth e = let z : ◌≡◌ {A = ℕ} 0 1 = cc in omega arith
 
-  pub not_fresh : fresh size r s t ≡ false → held N img r ≡ none
+  pub not_fresh : fresh (length b) r s t ≡ false → held N img r ≡ none
   not_fresh f = go here_holds
     where
       go : Holding (size_of N img) r (block_state current) → held N img r ≡ none
       go (holds_not _ n) = held_is none n
       go (holds_so x u _ _) = absurd (truth (sym u ∙ sym fresh_is ∙ f))
 
-  pub was_fresh : fresh size r s t ≡ true → (x : Journal) × (held N img r ≡ some x) × (s ≡ survey_of (valid x)) × (t ≡ places_in (valid x))
+  pub was_fresh : fresh (length b) r s t ≡ true → (x : Journal) × (held N img r ≡ some x) × (s ≡ survey_of (valid x)) × (t ≡ places_in (valid x))
   was_fresh f = go here_holds
     where
       go : Holding (size_of N img) r (block_state current) → (x : Journal) × (held N img r ≡ some x) × (s ≡ survey_of (valid x)) × (t ≡ places_in (valid x))

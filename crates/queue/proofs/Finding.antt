@@ -45,6 +45,7 @@ use Rattle.board.specs.declared.Rest.{Rest}
 use Rattle.board.specs.declared.Phase.TheVariants.{Idle}
 use Rattle.job.specs.declared.records.Stepped.{Stepped}
 use Rattle.job.specs.Code.{at_rest_of}
+use Rattle.looks.specs.declared.image.Image.{Image}
 use Rattle.looks.proofs.Images.{block_length}
 use Rattle.queue.specs.declared.reads as located
 use Rattle.queue.specs.Calls.{place_in, told, stretch_of, located_at, located_in, heard_as, heard_in, answering, read_as_of, telling, Finds}
@@ -159,11 +160,11 @@ module _ (N : ℕ) (img : List ℕ) (k : ℕ) (ok : allowed N (length img) ≡ t
       sym (ap found_of (ap (λ (b : List ℕ). value_at ed b i p) (block_past (ltb-false k N t)) ∙ value_nil ed i p)) ∙ e in cc)
 
 -- by what the code reads
-pub placed_inside : (N : ℕ) (img : List ℕ) (z : Rest) (i : ObjectId) (p : ℕ) {size : ℕ} {b : List ℕ} {ed : Edition} {o : Rattle.std.specs.Prelude.Option Found} (y : Found)
-    → allowed N (length img) ≡ true → size ≡ size_of N img → b ≡ block size z.block img → ed ≡ edition_by z.edition → o ≡ found_of (value_at ed b i p) → o ≡ Some y
-    → (z.block * size + y.at + y.size ≤ length img) × (length img ≤ 65536)
-placed_inside N img z i p y ok e q d f g =
-    rw e (found_inside N img z.block ok (edition_by z.edition) i p y (rw (q, e, d) at (sym f ∙ g)))
+pub placed_inside : (x : Image) (z : Rest) (i : ObjectId) (p : ℕ) {size : ℕ} {b : List ℕ} {ed : Edition} {o : Rattle.std.specs.Prelude.Option Found} (y : Found)
+    → size ≡ size_of x.blocks x.bytes.now → b ≡ block (size_of x.blocks x.bytes.now) z.block x.bytes.now → ed ≡ edition_by z.edition → o ≡ found_of (value_at ed b i p) → o ≡ Some y
+    → (z.block * size + y.at + y.size ≤ length x.bytes.now) × (length x.bytes.now ≤ 65536)
+placed_inside x z i p y e q d f g =
+    rw e (found_inside x.blocks x.bytes.now z.block x.is_allowed (edition_by z.edition) i p y (rw (q, d) at (sym f ∙ g)))
 
 -- ---- no other request has a stretch
 

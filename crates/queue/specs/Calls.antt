@@ -1,5 +1,5 @@
 -- What the requests do, by a survey of the current block and in the code's order of tests. proofs/ ties it to board's definitions.
-use Rattle.std.specs.Prelude.{◌≡◌, List, [], ◌∷◌, Bool, ◌&&◌, cond, ℕ, ◌+◌, ◌*◌, ◌≤◌, eqb, leb, length, get_or, Some, None, ⊤, Result, Ok, Err, Option}
+use Rattle.std.specs.Prelude.{◌≡◌, List, [], ◌∷◌, Bool, ◌&&◌, cond, ℕ, ◌+◌, ◌*◌, ◌≤◌, eqb, leb, length, get_or, Some, None, ⊤, Result, Ok, Err, MatchResult, Option}
 use Rattle.flash.specs.Bytes.{same_bytes_of}
 use Rattle.flash.specs.Flash.{block, size_of}
 use Rattle.frame.specs.declared.Host.{Host}
@@ -23,6 +23,7 @@ use Rattle.board.specs.Queue.{Asking, asking, request_on}
 use Rattle.job.specs.declared.records.Stepped.{Stepped}
 use Rattle.job.specs.Code.{at_rest_of, fits}
 use Rattle.queue.specs.declared.reads.Stretch.{Stretch}
+use Rattle.looks.specs.declared.image.Image.{Image}
 use Rattle.looks.specs.Surveys.{is_valid}
 use Rattle.serving.specs.Calls.{open_in, claimed_in, Asks}
 
@@ -36,6 +37,12 @@ gate_in Idle = Ok tt
 -- 4, 10, 5, 2
 unfoldable pub gate_of : ℕ → ℕ → Phase → Host → Result ⊤ Refusal
 gate_of N n p h = cond (allowed N n) (cond (leb h.0 host_max) (gate_in p) (Err refusal.HostRange)) (Err refusal.ImageLength)
+
+-- an open gate hands the image back, a shut one says why
+abbrev pub Gated : ℕ → List ℕ → Phase → Host → Result Image Refusal → Type 0
+Gated N img p h r =
+    let gate : Result ⊤ Refusal = gate_of N (length img) p h in
+    MatchResult r (λ i. (i.bytes.now ≡ img) × (i.blocks ≡ N) × (gate ≡ Ok tt)) (λ why. gate ≡ Err why)
 
 -- the block is as an idle record has it, but for the places
 unfoldable pub as_recorded : ℕ → Rest → Survey → Bool

@@ -1,25 +1,22 @@
 // The refusals for which no byte of the image is looked at.
-ghost use Rattle.std.specs.Prelude.{◌≡◌};
-ghost use Rattle.queue.specs.Calls.{gate_of};
+ghost use Rattle.queue.specs.Calls.{Gated};
 
 use board::Phase;
 use frame::Host;
-use looks::image;
+use looks::image::Image;
 use wire::Refusal;
 
-// Whether a request is to be heard, or why not: by the image's length and number of blocks, the host, and the record's phase.
+// The image of a request that is to be heard, or why it isn't: by the image's length and number of blocks, the host, and the record's phase.
 #[tactic(auto, unfolding(crate::specs::Calls::gate_of))]
-pub fn check(len: usize, blocks: u8, phase: Phase, host: Host) -> Result<(), Refusal>
-    ensures { result ≡ gate_of blocks len phase host }
+pub fn check(bytes: &[u8], blocks: u8, phase: Phase, host: Host) -> Result<Image<'_>, Refusal>
+    ensures { Gated blocks bytes.now phase host result }
 {
-    if !image::is_allowed(blocks, len) {
-        return Err(Refusal::ImageLength);
-    }
+    let image = Image::try_new(bytes, blocks)?;
     if 3 < host.0 {
         return Err(Refusal::HostRange);
     }
     match phase {
-        Phase::Idle => Ok(()),
+        Phase::Idle => Ok(image),
         Phase::Busy(_) => Err(Refusal::Busy),
         Phase::Unmounted => Err(Refusal::NoStore),
     }

@@ -1,38 +1,31 @@
 // 11: the image read afresh, and what of it an idle record has.
-ghost use Rattle.std.specs.Prelude.{◌≡◌, ◌&&◌, ◌||◌, eqb};
-ghost use Rattle.flash.specs.Bytes.{all_ff, same_bytes_of};
-ghost use Rattle.flash.specs.Flash.{block, block_numbers};
+ghost use Rattle.std.specs.Prelude.{◌≡◌, ◌&&◌};
+ghost use Rattle.flash.specs.Bytes.{same_bytes_of};
+ghost use Rattle.flash.specs.Flash.{block_numbers};
 ghost use Rattle.board.specs.Record.{no_places, idle};
 ghost use Rattle.board.specs.Queue.{others_blank, same_image};
 ghost use Rattle.queue.specs.Calls.{as_recorded};
 
 use board::Rest;
+use looks::image::Image;
 use looks::surveys;
 use serving::room;
 use survey::Survey;
 
-// A block is blank, or the one that is passed over.
-fn passes(image: &[u8], size: usize, number: u8, k: u8) -> bool
-    ensures { result ≡ (eqb number k || all_ff (block size k image.now)) }
-{
-    number == k || flash::is_blank(flash::block_of(image, size, k))
-}
-
 // Every block but one is blank.
-fn others_blank(image: &[u8], blocks: u8, number: u8) -> bool
-    ensures { result ≡ others_blank blocks number image.now (block_numbers blocks) }
+fn others_blank(image: &Image<'_>, number: u8) -> bool
+    ensures { result ≡ others_blank image.now.blocks number image.now.bytes.now (block_numbers image.now.blocks) }
 {
-    let size = flash::size_of(blocks, image.len());
-    (0..blocks).all(|k| passes(image, size, number, k))
+    (0..image.blocks).all(|k| number == k || flash::is_blank(image.block(k)))
 }
 
 // The image has the recorded length and number of blocks, the recorded block is there, and the others are blank.
-pub fn same_image(image: &[u8], blocks: u8, rest: Rest) -> bool
-    ensures { result ≡ same_image blocks image.now (idle no_places rest) }
+pub fn same_image(image: &Image<'_>, rest: Rest) -> bool
+    ensures { result ≡ same_image image.now.blocks image.now.bytes.now (idle no_places rest) }
 {
-    job::same_shape(image.len(), blocks, rest)
-        && rest.block < blocks
-        && others_blank(image, blocks, rest.block)
+    job::same_shape(image.bytes.len(), image.blocks, rest)
+        && rest.block < image.blocks
+        && others_blank(image, rest.block)
 }
 
 // The current block is as an idle record has it, but for the places.

@@ -1,7 +1,6 @@
 // Reads: where a settled value stands in the caller's own image.
-ghost use Rattle.std.specs.Prelude.{◌≡◌, [], true, ◌+◌, ◌≤◌, IfOk, length, take, drop};
+ghost use Rattle.std.specs.Prelude.{◌≡◌, [], ◌+◌, ◌≤◌, IfOk, length, take, drop};
 ghost use Rattle.board.specs.Record as outcome;
-ghost use Rattle.board.specs.Record.{allowed};
 ghost use Rattle.board.specs.Queue.{asking, read_on};
 ghost use Rattle.board.specs.declared.Record.{Record};
 ghost use Rattle.job.specs.Code.{placed};
@@ -10,6 +9,7 @@ ghost use Rattle.queue.specs.Calls.{place_in, located_in, heard_in, Finds};
 use crate::gate;
 use board::{Phase, Record, Rest};
 use frame::{Edition, Host, ObjectId};
+use looks::image::Image;
 use wire::Refusal;
 
 // A stretch of the image; the default is empty.
@@ -21,47 +21,32 @@ pub struct Stretch {
 
 // The value of an id by its place: one frame is looked at.
 #[tactic(auto, unfolding(crate::specs::Calls::located_in))]
-fn at_place(
-    image: &[u8],
-    blocks: u8,
-    rest: Rest,
-    place: u16,
-    id: ObjectId,
-) -> Result<Stretch, Refusal>
-    requires { allowed blocks (length image.now) ≡ true }
-    ensures by_place { result ≡ located_in blocks image.now rest place id }
-    ensures inside { IfOk result (λ s. s.at + s.size ≤ length image.now) }
+fn at_place(image: &Image<'_>, rest: Rest, place: u16, id: ObjectId) -> Result<Stretch, Refusal>
+    ensures by_place { result ≡ located_in image.now.blocks image.now.bytes.now rest place id }
+    ensures inside { IfOk result (λ s. s.at + s.size ≤ length image.now.bytes.now) }
 {
-    if !job::same_shape(image.len(), blocks, rest) {
+    if !job::same_shape(image.bytes.len(), image.blocks, rest) {
         return Err(Refusal::Stale);
     }
     if place == 0 {
         return Err(Refusal::NoObject);
     }
-    let size = flash::size_of(blocks, image.len());
-    let block = flash::block_of(image, size, rest.block);
+    let block = image.block(rest.block);
     let edition = Edition::from(rest.edition);
     let found = fetch::value_at(block, edition, id, place).ok_or(Refusal::Stale)?;
     Ok(Stretch {
-        at: rest.block as usize * size + found.at,
+        at: rest.block as usize * image.size() + found.at,
         size: found.size as usize,
     })
 }
 
 // A message of a read's kind, with the place of the id in it.
-pub fn hear(
-    image: &[u8],
-    blocks: u8,
-    rest: Rest,
-    place: u16,
-    message: &[u8],
-) -> Result<Stretch, Refusal>
-    requires { allowed blocks (length image.now) ≡ true }
-    ensures by_place { result ≡ heard_in blocks image.now rest place message.now }
-    ensures inside { IfOk result (λ s. s.at + s.size ≤ length image.now) }
+pub fn hear(image: &Image<'_>, rest: Rest, place: u16, message: &[u8]) -> Result<Stretch, Refusal>
+    ensures by_place { result ≡ heard_in image.now.blocks image.now.bytes.now rest place message.now }
+    ensures inside { IfOk result (λ s. s.at + s.size ≤ length image.now.bytes.now) }
 {
     wire::parse(message).ok_or(Refusal::Malformed)?;
-    at_place(image, blocks, rest, place, wire::id_in(message))
+    at_place(image, rest, place, wire::id_in(message))
 }
 
 // A read by where the record stands and the place of the id asked. A message of another kind is malformed.
@@ -77,11 +62,11 @@ pub fn find(
     ensures { (b : Record) → place ≡ place_in b.places message.now
         → Finds (asking blocks image.now (placed phase rest b) host message.now []) result }
 {
-    gate::check(image.len(), blocks, phase, host)?;
+    let image = gate::check(image, blocks, phase, host)?;
     if !wire::is_read_kind(message) {
         return Err(Refusal::Malformed);
     }
-    hear(image, blocks, rest, place, message)
+    hear(&image, rest, place, message)
 }
 
 // Where a read's value stands, and its size: both 0 where it is refused.

@@ -46,19 +46,18 @@ fn try_request(
         (asking blocks image.now (resting phase recorded.now rest) host message.now reply.old)
         (begun_or rest result) (left places.new frame.new reply.new) }
 {
-    gate::check(image.len(), blocks, phase, host)?;
+    let image = gate::check(image, blocks, phase, host)?;
     if wire::is_read_kind(message) {
         let place = serving::place_of(recorded, wire::id_in(message));
-        reads::hear(image, blocks, rest, place, message)?;
+        reads::hear(&image, rest, place, message)?;
         return Ok(serving::done(rest));
     }
-    if !held::same_image(image, blocks, rest) {
+    if !held::same_image(&image, rest) {
         return Err(Refusal::Stale);
     }
-    let size = flash::size_of(blocks, image.len());
-    let block = flash::block_of(image, size, rest.block);
+    let block = image.block(rest.block);
     let s = survey::survey_block(block, places);
-    if !held::is_fresh(size, rest, recorded, s, places) {
+    if !held::is_fresh(block.len(), rest, recorded, s, places) {
         return Err(Refusal::Stale);
     }
     let ask = wire::parse(message).ok_or(Refusal::Malformed)?;

@@ -1,31 +1,27 @@
 -- A read: refused at the gate, of another kind, or by its place.
-use mathlib.Core.Path.{refl, sym, ◌∙◌}
-use lib.ListN.{length}
+use mathlib.Core.Path.{refl, sym}
+use Rattle.std.proofs.Common.{rules}
 use Rattle.board.specs.Queue.{Asking, asking}
 use Rattle.job.specs.Code.{placed}
 use Rattle.queue.specs.Calls.{read_as_of, telling}
-use Rattle.queue.proofs.Asking.{passed, passed_on, shut}
+use Rattle.queue.proofs.Asking.{opened, shut}
 use Rattle.queue.proofs.Finding.{shut_finds, other_finds, read_finds}
 use Rattle.queue.proofs.reads.find.Goals as goal
 
-pub returns-in_err-check : goal.returns-in_err-check
-returns-in_err-check c =
-    let why = c.in_err-check.field-0.0 in
-    let g = sym c.check.ensures ∙ c.in_err-check.was in
+pub returns-in_err-image : goal.returns-in_err-image
+returns-in_err-image c =
+    let why = c.in_err-image.field-0.0 in
+    let g = c.in_err-image.ensures in
     λ b e. let a : Asking = asking c.args.blocks c.args.image.now (placed c.args.phase c.args.rest b) c.args.host c.args.message.now _ in
-    shut_finds a c.from_residual.result why (shut a why g) (shut (telling a (read_as_of c.args.message.now)) why g)
-    (passed_on c.from_residual.result why c.from_residual.ensures.1)
+    shut_finds a c.from_residual.result why (shut a why g) (shut (telling a (read_as_of c.args.message.now)) why g) (search rules)
 
 pub returns-then-not-is_read_kind : goal.returns-then-not-is_read_kind
 returns-then-not-is_read_kind c =
-    λ b e. other_finds _ _ (passed c.args.blocks (length c.args.image.now) c.args.phase c.args.host _ (sym c.check.ensures ∙ c.in_ok-check.was))
-    (sym c.if-not-is_read_kind.ensures) refl
-
-pub hear-requires : goal.hear-requires
-hear-requires c =
-    (passed c.args.blocks (length c.args.image.now) c.args.phase c.args.host _ (sym c.check.ensures ∙ c.in_ok-check.was)).ok
+    let g = c.in_ok-image.ensures in
+    rw (sym g.0, sym g.1) (λ b e. other_finds _ _ (opened c.in_ok-image.image g) (sym c.if-not-is_read_kind.ensures) refl)
 
 pub returns : goal.returns
 returns c =
-    λ b e. read_finds _ _ (passed c.args.blocks (length c.args.image.now) c.args.phase c.args.host _ (sym c.check.ensures ∙ c.in_ok-check.was))
-    c.args.place e (sym c.if-not-is_read_kind.ensures) c.hear.ensures.by_place c.hear.ensures.inside
+    let g = c.in_ok-image.ensures in
+    rw (sym g.0, sym g.1) (λ b e. read_finds _ _ (opened c.in_ok-image.image g) c.args.place e (sym c.if-not-is_read_kind.ensures) c.hear.ensures.by_place
+    c.hear.ensures.inside)
