@@ -7,6 +7,7 @@ ghost use Rattle.board.specs.Queue.{others_blank, same_image};
 ghost use Rattle.queue.specs.Calls.{as_recorded};
 
 use board::Rest;
+use flash::Shape;
 use looks::surveys;
 use serving::room;
 use survey::Survey;
@@ -30,7 +31,7 @@ fn others_blank(image: &[u8], blocks: u8, number: u8) -> bool
 pub fn same_image(image: &[u8], blocks: u8, rest: Rest) -> bool
     ensures { result ≡ same_image blocks image.now (idle no_places rest) }
 {
-    job::same_shape(image.len(), blocks, rest)
+    job::same_shape(Shape::of(image, blocks), rest)
         && rest.block < blocks
         && others_blank(image, blocks, rest.block)
 }

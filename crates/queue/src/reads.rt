@@ -9,6 +9,7 @@ ghost use Rattle.queue.specs.Calls.{place_in, located_in, heard_in, Finds};
 
 use crate::gate;
 use board::{Phase, Record, Rest};
+use flash::Shape;
 use frame::{Edition, Host, ObjectId};
 use wire::Refusal;
 
@@ -32,7 +33,7 @@ fn at_place(
     ensures by_place { result ≡ located_in blocks image.now rest place id }
     ensures inside { IfOk result (λ s. s.at + s.size ≤ length image.now) }
 {
-    if !job::same_shape(image.len(), blocks, rest) {
+    if !job::same_shape(Shape::of(image, blocks), rest) {
         return Err(Refusal::Stale);
     }
     if place == 0 {
@@ -77,7 +78,7 @@ pub fn find(
     ensures { (b : Record) → place ≡ place_in b.places message.now
         → Finds (asking blocks image.now (placed phase rest b) host message.now []) result }
 {
-    gate::check(image.len(), blocks, phase, host)?;
+    gate::check(Shape::of(image, blocks), phase, host)?;
     if !wire::is_read_kind(message) {
         return Err(Refusal::Malformed);
     }

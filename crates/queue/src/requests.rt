@@ -8,6 +8,7 @@ ghost use Rattle.queue.specs.Calls.{left, Asked};
 
 use crate::{gate, held, reads};
 use board::{Phase, Record, Rest};
+use flash::Shape;
 use frame::{BUFFER_LEN, Host};
 use job::records::Stepped;
 use job::{Outcome, records};
@@ -46,7 +47,7 @@ fn try_request(
         (asking blocks image.now (resting phase recorded.now rest) host message.now reply.old)
         (begun_or rest result) (left places.new frame.new reply.new) }
 {
-    gate::check(image.len(), blocks, phase, host)?;
+    gate::check(Shape::of(image, blocks), phase, host)?;
     if wire::is_read_kind(message) {
         let place = serving::place_of(recorded, wire::id_in(message));
         reads::hear(image, blocks, rest, place, message)?;

@@ -22,12 +22,12 @@ returns-in_err-check c =
     λ b.
     let r : Record = resting c.args.phase c.args.recorded.now c.args.rest in
     let a : Asking = asking c.args.blocks c.args.image.now (alike r b) c.args.host c.args.message.now c.args.reply.now in
-    refused_all a _ _ why _ (shut a why (sym c.check.ensures ∙ c.in_err-check.was))
+    refused_all a _ _ why _ (shut a why (rw c.of.ensures at (sym c.check.ensures ∙ c.in_err-check.was)))
     (ap (begun_or c.args.rest) (passed_on c.from_residual.result why c.from_residual.ensures.1))
 
 pub hear-requires : goal.hear-requires
 hear-requires c =
-    (passed c.args.blocks (length c.args.image.now) c.args.phase c.args.host _ (sym c.check.ensures ∙ c.in_ok-check.was)).ok
+    (passed c.args.blocks (length c.args.image.now) c.args.phase c.args.host _ (rw c.of.ensures at (sym c.check.ensures ∙ c.in_ok-check.was))).ok
 
 pub returns-in_err-hear : goal.returns-in_err-hear
 returns-in_err-hear c =
@@ -36,7 +36,7 @@ returns-in_err-hear c =
     λ b.
     let r : Record = resting c.args.phase c.args.recorded.now c.args.rest in
     let a : Asking = asking c.args.blocks c.args.image.now (alike r b) c.args.host c.args.message.now c.args.reply.now in
-    read_asks a _ _ _ (passed c.args.blocks (length c.args.image.now) c.args.phase c.args.host _ (sym c.check.ensures ∙ c.in_ok-check.was))
+    read_asks a _ _ _ (passed c.args.blocks (length c.args.image.now) c.args.phase c.args.host _ (rw c.of.ensures at (sym c.check.ensures ∙ c.in_ok-check.was)))
     (sym c.if-is_read_kind.ensures)
     (ap (begun_or c.args.rest) (passed_on c.from_residual-in_err-hear.result why c.from_residual-in_err-hear.ensures.1)
     ∙ ap (answering c.args.rest) (sym c.in_err-hear.was ∙ h))
@@ -47,12 +47,12 @@ returns-then-is_read_kind c =
     λ b.
     let r : Record = resting c.args.phase c.args.recorded.now c.args.rest in
     let a : Asking = asking c.args.blocks c.args.image.now (alike r b) c.args.host c.args.message.now c.args.reply.now in
-    read_asks a _ _ _ (passed c.args.blocks (length c.args.image.now) c.args.phase c.args.host _ (sym c.check.ensures ∙ c.in_ok-check.was))
+    read_asks a _ _ _ (passed c.args.blocks (length c.args.image.now) c.args.phase c.args.host _ (rw c.of.ensures at (sym c.check.ensures ∙ c.in_ok-check.was)))
     (sym c.if-is_read_kind.ensures) (c.done.ensures ∙ ap (answering c.args.rest) (sym c.in_ok-hear.was ∙ h))
 
 pub returns-then-not-same_image : goal.returns-then-not-same_image
 returns-then-not-same_image c =
-    let g = passed c.args.blocks (length c.args.image.now) c.args.phase c.args.host _ (sym c.check.ensures ∙ c.in_ok-check.was) in
+    let g = passed c.args.blocks (length c.args.image.now) c.args.phase c.args.host _ (rw c.of.ensures at (sym c.check.ensures ∙ c.in_ok-check.was)) in
     λ b.
     let r : Record = resting c.args.phase c.args.recorded.now c.args.rest in
     let a : Asking = asking c.args.blocks c.args.image.now (alike r b) c.args.host c.args.message.now c.args.reply.now in
@@ -62,7 +62,7 @@ returns-then-not-same_image c =
 
 pub returns-then-not-is_fresh : goal.returns-then-not-is_fresh
 returns-then-not-is_fresh c =
-    let g = passed c.args.blocks (length c.args.image.now) c.args.phase c.args.host _ (sym c.check.ensures ∙ c.in_ok-check.was) in
+    let g = passed c.args.blocks (length c.args.image.now) c.args.phase c.args.host _ (rw c.of.ensures at (sym c.check.ensures ∙ c.in_ok-check.was)) in
     -- the block was surveyed
     let l : Looked c.args.blocks c.args.image.now (idle c.args.recorded.now c.args.rest)
     c.size_of-size.result c.block_of-block.result.now c.survey_block-s.result c.survey_block-s.new.places =
@@ -76,7 +76,7 @@ returns-then-not-is_fresh c =
 
 pub returns-in_err-ask : goal.returns-in_err-ask
 returns-in_err-ask c =
-    let g = passed c.args.blocks (length c.args.image.now) c.args.phase c.args.host _ (sym c.check.ensures ∙ c.in_ok-check.was) in
+    let g = passed c.args.blocks (length c.args.image.now) c.args.phase c.args.host _ (rw c.of.ensures at (sym c.check.ensures ∙ c.in_ok-check.was)) in
     -- the block was surveyed
     let l : Looked c.args.blocks c.args.image.now (idle c.args.recorded.now c.args.rest)
     c.size_of-size.result c.block_of-block.result.now c.survey_block-s.result c.survey_block-s.new.places =
@@ -95,7 +95,7 @@ returns-in_err-ask c =
 
 pub serve-requires : goal.serve-requires
 serve-requires c =
-    let g = passed c.args.blocks (length c.args.image.now) c.args.phase c.args.host _ (sym c.check.ensures ∙ c.in_ok-check.was) in
+    let g = passed c.args.blocks (length c.args.image.now) c.args.phase c.args.host _ (rw c.of.ensures at (sym c.check.ensures ∙ c.in_ok-check.was)) in
     -- the block was surveyed
     let l : Looked c.args.blocks c.args.image.now (idle c.args.recorded.now c.args.rest)
     c.size_of-size.result c.block_of-block.result.now c.survey_block-s.result c.survey_block-s.new.places =
@@ -110,7 +110,7 @@ serve-requires c =
 
 pub returns : goal.returns
 returns c =
-    let g = passed c.args.blocks (length c.args.image.now) c.args.phase c.args.host _ (sym c.check.ensures ∙ c.in_ok-check.was) in
+    let g = passed c.args.blocks (length c.args.image.now) c.args.phase c.args.host _ (rw c.of.ensures at (sym c.check.ensures ∙ c.in_ok-check.was)) in
     -- the block was surveyed
     let l : Looked c.args.blocks c.args.image.now (idle c.args.recorded.now c.args.rest)
     c.size_of-size.result c.block_of-block.result.now c.survey_block-s.result c.survey_block-s.new.places =
