@@ -7,7 +7,8 @@ use Prim.Native.Nat.{ℕ, suc, ◌+◌, ◌*◌, ◌≤◌, ◌<◌}
 use native.Mathlib.Omega.{arith}
 use lib.ListN.{length, get_or, drop}
 use lib.Seq.{drop-cons, drop-length}
-use Rattle.flash.specs.Flash.{Step, program_at, size_in, writes, write_all}
+use Rattle.flash.specs.Flash.{Step, block_of, offset_of, program_at, size_in, writes, write_all}
+use Rattle.flash.proofs.Sizes.{place-most}
 use Rattle.wire.specs.declared.Refusal.TheVariants as refusal
 use Rattle.board.specs.declared.Stage.{Stage}
 use Rattle.board.specs.declared.Phase.{Phase}
@@ -15,20 +16,28 @@ use Rattle.board.specs.declared.Phase.TheVariants.{Unmounted, Idle, Busy}
 use Rattle.board.specs.declared.Record.{Record}
 use Rattle.board.specs.declared.Rest.{Rest}
 use Rattle.board.specs.declared.Next.TheVariants as next
-use Rattle.board.specs.Step.{action}
+use Rattle.board.specs.Step as step
 use Rattle.board.specs.Drive.{placed, next_in}
-use Rattle.job.specs.Code.{takes}
-use Rattle.job.proofs.Acting.{place-most}
+use Rattle.job.specs.declared.actions.Action.{Action}
+use Rattle.job.specs.declared.actions.Action.TheVariants as action
+use Rattle.job.specs.Code.{flash_step, takes}
 use Rattle.drive.specs.declared.bursts.Lane.{Lane}
 use Rattle.drive.specs.Code.{Short}
 
 -- ---- what is next in a job, by whether its place lies in the image
 
-pub next_is : (N len : ℕ) (r : Record) (st : Stage) (x : Step) (b : Bool) → x ≡ action st r → takes N len r.rest x ≡ b
+pub next_is : (N len : ℕ) (r : Record) (st : Stage) (x : Step) (b : Bool) → x ≡ step.action st r → takes N len r.rest x ≡ b
     → cond b (placed (size_in N len) x) (next.Refused refusal.Stale) ≡ next_in N (Busy st) len r
 next_is N len r st x b e t =
     ap (λ (c : Bool). cond c (placed (size_in N len) x) (next.Refused refusal.Stale)) (sym t)
     ∙ ap (λ (y : Step). cond (takes N len r.rest y) (placed (size_in N len) y) (next.Refused refusal.Stale)) e
+
+-- a byte to program, by its place
+pub placed-program : (s i : ℕ) (a : Action) (k o v : ℕ) → a ≡ action.Program k o v
+    → i ≡ block_of (flash_step a) * s + offset_of (flash_step a) → next.Program i v ≡ placed s (flash_step a)
+placed-program s i a k o v e h =
+    ap (λ (j : ℕ). next.Program j v) (h ∙ ap (λ (x : Action). block_of (flash_step x) * s + offset_of (flash_step x)) e)
+    ∙ sym (ap (λ (x : Action). placed s (flash_step x)) e)
 
 -- in no job there is nothing
 pub nothing_next : (N len : ℕ) (r : Record) (ph : Phase) → (ph ≡ Unmounted) ⊎ (ph ≡ Idle) → next.Nothing ≡ next_in N ph len r

@@ -1,11 +1,12 @@
 // The bytes of a frame that is copied or appended, programmed one after the other.
-ghost use Rattle.std.specs.Prelude.{◌≡◌, List, ℕ, ◌+◌, ◌<◌, ◌≤◌, length};
-ghost use Rattle.flash.specs.Flash.{writes, write_all};
+ghost use Rattle.std.specs.Prelude.{◌≡◌, true, List, ℕ, ◌+◌, ◌<◌, ◌≤◌, length};
+ghost use Rattle.flash.specs.Flash.{size_in, within, program, writes, write_all};
 ghost use Rattle.board.specs.declared.Stage.TheVariants.{Copy, Append};
 ghost use Rattle.job.specs.Code.{assemble, staged};
 ghost use Rattle.drive.specs.Code.{on_by, steps_by, copy_lane, append_lane, Short, laid, Bursts};
 
 use board::{Cursor, Phase, Rest, Stage};
+use flash::Shape;
 use frame::BUFFER_LEN;
 use job::records::Numbers;
 
@@ -35,20 +36,20 @@ fn program_all(image: &mut [u8], at: usize, bytes: &[u8])
     }
 }
 
-// How many bytes can be programmed before the frame's last one: none where the next one's place is not in the image.
-fn burst_len(len: usize, blocks: u8, rest: Rest, lane: Lane, most: usize) -> usize
-    ensures { (result ≤ most) × (0 < result → Short blocks len rest lane result) }
+// How many bytes can be programmed before the frame's last one.
+fn burst_len(shape: Shape, rest: Rest, lane: Lane, most: usize) -> usize
+    requires { within shape.blocks (size_in shape.blocks shape.len) (program lane.block lane.at 0) ≡ true }
+    ensures { (result ≤ most) × (0 < result → Short shape.blocks shape.len rest lane result) }
 {
-    let size = flash::size_of(blocks, len);
-    if job::same_shape(len, blocks, rest) && job::lies_in(blocks, size, lane.block, lane.at) {
+    if job::same_shape(shape, rest) {
         let end = BUFFER_LEN.min(lane.size as usize);
         let ahead = end.saturating_sub(lane.done as usize + 1);
-        return most.min(size - lane.at).min(ahead);
+        return most.min(shape.size() - lane.at).min(ahead);
     }
     0
 }
 
-// Programs them, and says how many they were.
+// Programs them, none where the next one's place is not in the image, and says how many they were.
 fn lay(
     image: &mut [u8],
     blocks: u8,
@@ -61,12 +62,15 @@ fn lay(
         × (0 < result → (image.new ≡ laid blocks lane frame.now result image.old) × (result + lane.done ≤ length frame.now))
         × (result ≡ 0 → image.new ≡ image.old) }
 {
-    let k = burst_len(image.len(), blocks, rest, lane, most);
+    let shape = Shape::of(image, blocks);
+    let Some(at) = shape.place(lane.block, lane.at) else {
+        return 0;
+    };
+    let k = burst_len(shape, rest, lane, most);
     if k == 0 {
         return 0;
     }
     let done = lane.done as usize;
-    let at = lane.block as usize * flash::size_of(blocks, image.len()) + lane.at;
     program_all(image, at, &frame[done..done + k]);
     k
 }

@@ -1,12 +1,13 @@
 -- The size of a block, by how many there are.
 use mathlib.Core.Path.{◌≡◌, sym, ap, subst, ◌∙◌}
-use Prim.Native.Nat.{ℕ, ◌*◌, ◌/◌, ◌≤◌}
+use Prim.Native.Nat.{ℕ, ◌+◌, ◌*◌, ◌/◌, ◌≤◌, ◌<◌}
 use native.Mathlib.Omega.{arith}
 use native.Mathlib.Nat.{mul-div_cancel_left, mul-div-le, mul-le-mul_right, zero-mul}
 use lib.Dec.{eqb}
 use borrow.Author.Tests.{eqb-true, eqb-false}
 use Rattle.flash.specs.Flash.{size_in}
 use Rattle.flash.proofs.Cases.{on_test}
+use Rattle.flash.proofs.Image.{blocks-le}
 
 pub size-some : (N n : ℕ) → (N ≡ 0 → ⊥) → n / N ≡ size_in N n
 unfolding size_in
@@ -25,3 +26,7 @@ size-within N n =
 -- of two blocks or more, one is at most half of the image
 pub size-half : (N n : ℕ) → 2 ≤ N → 2 * size_in N n ≤ n
 size-half N n h = omega (arith, mul-le-mul_right {m = 2} {n = N} (size_in N n) h, size-within N n)
+
+-- an offset up to a block's end is at most the image's length
+pub place-most : (N n s k o : ℕ) → s ≡ size_in N n → k < N → o ≤ s → k * s + o ≤ n
+place-most N n s k o e h l = omega (arith, blocks-le s k N h, subst (λ (z : ℕ). N * z ≤ n) (sym e) (size-within N n))

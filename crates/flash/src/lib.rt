@@ -5,8 +5,10 @@ ghost use Rattle.std.specs.Prelude.{◌≡◌, ◌+◌, ◌*◌, ◌-◌, min, g
 ghost use Rattle.flash.specs.Bytes.{all_ff};
 ghost use Rattle.flash.specs.Flash.{size_in, block, program_at, erase_block};
 
+mod shape;
 mod slices;
 
+pub use shape::Shape;
 pub use slices::{front, get_or, rest, set_at};
 use std::ops::Range;
 

@@ -6,17 +6,18 @@ ghost use Rattle.edge.specs.Edge.{told, edge_next};
 
 use board::Next;
 use edge::WRONG_RECORD;
+use flash::Shape;
 use lent::RECORD_SIZE;
 
 // In the middle of a frame, or by the record's numbers.
-fn next_in(len: usize, blocks: u8, board: &[u8]) -> Next
-    ensures { result ≡ next_on blocks len (record_in board.now) }
+fn next_in(shape: Shape, board: &[u8]) -> Next
+    ensures { result ≡ next_on shape.blocks shape.len (record_in board.now) }
 {
-    if let Some(found) = midframe::try_next(len, blocks, board) {
+    if let Some(found) = midframe::try_next(shape, board) {
         return Next::Program(found.at, found.byte);
     }
     let n = unpack::numbers(board);
-    drive::next_of(len, blocks, n, unpack::in_hand(n, board))
+    drive::next_of(shape, n, unpack::in_hand(n, board))
 }
 
 #[unsafe(no_mangle)]
@@ -34,7 +35,7 @@ pub extern "C" fn grommetide_next(
     if board.len() != RECORD_SIZE {
         return WRONG_RECORD;
     }
-    let t = edge::tell(next_in(len, blocks, board));
+    let t = edge::tell(next_in(Shape { len, blocks }, board));
     *at = t.at;
     *size = t.size;
     *byte = t.byte;

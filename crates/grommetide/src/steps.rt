@@ -6,6 +6,7 @@ ghost use Rattle.lent.specs.Layout.{record_in};
 ghost use Rattle.edge.specs.Edge.{Edge, edge_step, edge_made, run, edge_run, ReadsBack};
 
 use edge::WRONG_RECORD;
+use flash::Shape;
 use lent::RECORD_SIZE;
 use wire::Answer;
 
@@ -29,14 +30,15 @@ pub extern "C" fn grommetide_made(image: &[u8], blocks: u8, board: &mut [u8]) ->
     ensures back { ReadsBack board.old board.new
         (made_on blocks image.now (record_in board.old)).board }
 {
-    if midframe::try_made(image.len(), blocks, board) {
+    let shape = Shape::of(image, blocks);
+    if midframe::try_made(shape, board) {
         return wire::number(Answer::More);
     }
     if board.len() != RECORD_SIZE {
         return WRONG_RECORD;
     }
     let n = unpack::numbers(board);
-    let m = job::made_of(image.len(), blocks, n);
+    let m = job::made_of(shape, n);
     edge::go_on(image, blocks, n.phase, m, board)
 }
 

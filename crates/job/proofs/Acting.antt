@@ -1,23 +1,22 @@
 -- A flash step by its block and offset; the writes that open and seal a block, by number.
-use mathlib.Core.Path.{◌≡◌, refl, sym, ap, subst, ◌∙◌}
+use mathlib.Core.Path.{◌≡◌, refl, ap, ◌∙◌}
 use mathlib.Core.List.{List, [], ◌∷◌}
-use mathlib.Core.Bool.{Bool, true, false, ◌&&◌, cond}
+use mathlib.Core.Bool.{true, ◌&&◌}
 use Prim.Native.Nat.{ℕ, zero, suc, ◌+◌, ◌-◌, ◌*◌, ◌/◌, ◌%◌, ◌<◌, ◌≤◌}
 use native.Mathlib.Omega.{arith}
 use lib.Dec.{eqb, ltb}
 use lib.ListN.{get_or}
 use borrow.Author.Tests.{eqb-true, ltb-true}
-use Rattle.flash.specs.Flash.{Step, apply, max_blocks, is_count, size_in, size_of, within, block_of, offset_of, write, writes}
+use Rattle.flash.specs.Flash.{Step, max_blocks, is_count, size_in, within, block_of, offset_of, write, writes}
 use Rattle.flash.proofs.Cases.{and_left, and_right, between}
-use Rattle.flash.proofs.Image.{blocks-le}
-use Rattle.flash.proofs.Sizes.{size-within, size-half}
+use Rattle.flash.proofs.Sizes.{size-half}
 use Rattle.frame.specs.declared.Edition.{Edition}
 use Rattle.frame.specs.declared.Edition.TheVariants as edition
 use Rattle.frame.specs.Frame.{edition_number, kind_at}
 use Rattle.flash.specs.Bytes.{u32le}
 use Rattle.journal.specs.Block.{open_write, seal_write, last_time, time_at, state_at, in_transfer, valid_data}
 use Rattle.board.specs.declared.Rest.{Rest}
-use Rattle.job.specs.Code.{fits, takes, did}
+use Rattle.job.specs.Code.{fits, takes}
 
 -- ---- a step's place
 
@@ -42,29 +41,9 @@ takes-parts N n z x e = (
   and_right (fits N n z) (within N (size_in N n) x) e,
 )
 
--- an offset up to a block's end is at most the image's length
-pub place-most : (N n s k o : ℕ) → s ≡ size_in N n → k < N → o ≤ s → k * s + o ≤ n
-place-most N n s k o e h l = omega (arith, blocks-le s k N h, subst (λ (z : ℕ). N * z ≤ n) (sym e) (size-within N n))
-
-pub place-low : (N n s : ℕ) (x : Step) → s ≡ size_in N n → within N s x ≡ true → block_of x * s + offset_of x < n
-place-low N n s x e t =
-    let w = in_parts N s x t in
-    let l : suc (offset_of x) ≤ s = omega (arith, w.2) in
-    omega (arith, place-most N n s (block_of x) (suc (offset_of x)) e w.1 l)
-
 -- a block is at most half of an image
 pub size_low : (N n : ℕ) → is_count N ≡ true → 2 * size_in N n ≤ n
 size_low N n c = size-half N n (between 2 N max_blocks c).0
-
-pub did-not : (N : ℕ) (x : Step) (img : List ℕ) → within N (size_of N img) x ≡ false
-    → (false ≡ within N (size_of N img) x) × (img ≡ did N x img)
-unfolding did
-did-not N x img e = (sym e, sym (ap (λ (b : Bool). cond b (apply (size_of N img) x img) img) e))
-
-pub did_it : (N : ℕ) (x : Step) (img : List ℕ) → within N (size_of N img) x ≡ true
-    → (true ≡ within N (size_of N img) x) × (apply (size_of N img) x img ≡ did N x img)
-unfolding did
-did_it N x img e = (sym e, sym (ap (λ (b : Bool). cond b (apply (size_of N img) x img) img) e))
 
 -- ---- the writes of a header
 

@@ -1,13 +1,13 @@
 // The flash step that a job does next, and doing it.
-ghost use Rattle.std.specs.Prelude.{◌≡◌, ◌&&◌, eqb, ltb, suc};
-ghost use Rattle.flash.specs.Flash.{program, erase, is_count, size_of, within, write};
+ghost use Rattle.std.specs.Prelude.{◌≡◌, ◌+◌, ◌*◌, true, false, eqb, suc, MatchOption};
+ghost use Rattle.flash.specs.Flash.{size_in, size_of, within, block_of, offset_of, write};
 ghost use Rattle.journal.specs.Block.{open_write, seal_write, close_byte};
 ghost use Rattle.job.specs.Code.{action_by, flash_step, fits, takes, did};
 
 use crate::header;
 use crate::records::{LAST_TIME, Numbers};
 use board::{Rest, Stage};
-use flash::MAX_BLOCKS;
+use flash::Shape;
 use frame::{Edition, FINISH};
 use journal::{IN_TRANSFER, STATE_AT, TIME_AT, VALID_DATA};
 
@@ -16,6 +16,20 @@ use journal::{IN_TRANSFER, STATE_AT, TIME_AT, VALID_DATA};
 pub enum Action {
     Program(u8, usize, u8),
     Erase(u8),
+}
+
+impl Action {
+    // Where it is in an image, if it is there.
+    pub fn place(self, shape: Shape) -> Option<usize>
+        ensures { MatchOption result (within shape.blocks (size_in shape.blocks shape.len) (flash_step self) ≡ false)
+            (λ i. (within shape.blocks (size_in shape.blocks shape.len) (flash_step self) ≡ true)
+            × (i ≡ block_of (flash_step self) * size_in shape.blocks shape.len + offset_of (flash_step self))) }
+    {
+        match self {
+            Action::Program(block, at, _) => shape.place(block, at),
+            Action::Erase(block) => shape.place(block, 0),
+        }
+    }
 }
 
 // A write that opens a block, its offset and its byte: the state byte, then the header's first four.
@@ -79,75 +93,41 @@ pub fn next_action(stage: Stage, n: Numbers, byte: u8) -> Action
     }
 }
 
-// ---- a step's place
-
-// A number of blocks that an image can have.
-pub fn is_count(blocks: u8) -> bool
-    ensures { result ≡ is_count blocks }
-{
-    2 <= blocks && blocks as usize <= MAX_BLOCKS
-}
-
-// It lies in an image of so many blocks of a size.
-pub fn lies_in(blocks: u8, size: usize, block: u8, at: usize) -> bool
-    ensures { result ≡ (is_count blocks && (ltb block blocks && ltb at size)) }
-{
-    is_count(blocks) && block < blocks && at < size
-}
-
 // ---- the step done, where its place lies in the image; else nothing changes
 
-pub fn program_in(image: &mut [u8], blocks: u8, block: u8, at: usize, byte: u8) -> bool
-    ensures { (result ≡ within blocks (size_of blocks image.old) (program block at byte))
-        × (image.new ≡ did blocks (program block at byte) image.old) }
-{
-    let size = flash::size_of(blocks, image.len());
-    let inside = lies_in(blocks, size, block, at);
-    if inside {
-        flash::program(image, block as usize * size + at, byte);
-    }
-    inside
-}
-
-fn erase_in(image: &mut [u8], blocks: u8, block: u8) -> bool
-    ensures { (result ≡ within blocks (size_of blocks image.old) (erase block))
-        × (image.new ≡ did blocks (erase block) image.old) }
-{
-    let size = flash::size_of(blocks, image.len());
-    let inside = lies_in(blocks, size, block, 0);
-    if inside {
-        flash::erase_block(image, size, block as usize);
-    }
-    inside
-}
-
+#[tactic(auto, unfolding(crate::specs::Code::did))]
 pub fn act(image: &mut [u8], blocks: u8, a: Action) -> bool
     ensures { (result ≡ within blocks (size_of blocks image.old) (flash_step a))
         × (image.new ≡ did blocks (flash_step a) image.old) }
 {
+    let shape = Shape::of(image, blocks);
+    let Some(at) = a.place(shape) else {
+        return false;
+    };
     match a {
-        Action::Program(block, at, byte) => program_in(image, blocks, block, at, byte),
-        Action::Erase(block) => erase_in(image, blocks, block),
+        Action::Program(_, _, byte) => flash::program(image, at, byte),
+        Action::Erase(block) => flash::erase_block(image, shape.size(), usize::from(block)),
     }
+    true
 }
 
 // ---- the record's image
 
-// An image of a length and so many blocks is the record's, by where that stands.
-pub fn same_shape(len: usize, blocks: u8, rest: Rest) -> bool
-    ensures { result ≡ fits blocks len rest }
+// An image is the record's, by where that stands.
+pub fn same_shape(shape: Shape, rest: Rest) -> bool
+    ensures { result ≡ fits shape.blocks shape.len rest }
 {
-    len == rest.last as usize + 1 && blocks == rest.blocks
+    shape.len == rest.last as usize + 1 && shape.blocks == rest.blocks
 }
 
 // And the place of a step that the caller does lies in it.
-pub fn within_image(len: usize, blocks: u8, rest: Rest, a: Action) -> bool
-    ensures { result ≡ takes blocks len rest (flash_step a) }
+pub fn place_in(shape: Shape, rest: Rest, a: Action) -> Option<usize>
+    ensures { MatchOption result (takes shape.blocks shape.len rest (flash_step a) ≡ false)
+        (λ i. (takes shape.blocks shape.len rest (flash_step a) ≡ true)
+        × (i ≡ block_of (flash_step a) * size_in shape.blocks shape.len + offset_of (flash_step a))) }
 {
-    let size = flash::size_of(blocks, len);
-    let (block, at) = match a {
-        Action::Program(block, at, _) => (block, at),
-        Action::Erase(block) => (block, 0),
-    };
-    same_shape(len, blocks, rest) && lies_in(blocks, size, block, at)
+    if same_shape(shape, rest) {
+        return a.place(shape);
+    }
+    None
 }

@@ -8,9 +8,7 @@ mod placing;
 pub mod records;
 mod steps;
 
-pub use actions::{
-    Action, act, is_count, lies_in, next_action, program_in, same_shape, within_image,
-};
+pub use actions::{Action, act, next_action, place_in, same_shape};
 use board::Record;
 pub use moves::Moved;
 pub use placing::committer;

@@ -17,6 +17,7 @@ use crate::records::{Numbers, Stepped};
 use crate::{Outcome, actions, moves, placing, records};
 use board::{Cursor, Phase, Record, Stage};
 use fetch::Fetch;
+use flash::Shape;
 use frame::{BODY_AT, BUFFER_LEN, Edition, Host, KIND_AT};
 use wire::{Answer, Refusal};
 
@@ -98,7 +99,8 @@ fn try_busy(image: &mut [u8], blocks: u8, stage: Stage, n: Numbers, byte: u8) ->
         image.new (step_busy blocks stage image.old (assemble n p u f)) }
 {
     let next = actions::next_action(stage, n, byte);
-    if actions::same_shape(image.len(), blocks, n.rest) && actions::act(image, blocks, next) {
+    let shape = Shape::of(image, blocks);
+    if actions::same_shape(shape, n.rest) && actions::act(image, blocks, next) {
         return moves::advance(stage, n);
     }
     stale(n)
@@ -118,26 +120,27 @@ pub fn try_step(image: &mut [u8], blocks: u8, n: Numbers, byte: u8) -> Moved
 
 // ---- a step that the caller made
 
-fn made_busy(len: usize, blocks: u8, stage: Stage, n: Numbers) -> Moved
-    ensures { (img p u f : List ℕ) → length img ≡ len → Steps (answered result) (ended_at result) (reached blocks result img p u f) img
-        (made_in_of blocks (Busy stage) img (assemble n p u f)) }
+fn made_busy(shape: Shape, stage: Stage, n: Numbers) -> Moved
+    ensures { (img p u f : List ℕ) → length img ≡ shape.len
+        → Steps (answered result) (ended_at result) (reached shape.blocks result img p u f) img
+        (made_in_of shape.blocks (Busy stage) img (assemble n p u f)) }
 {
     let next = actions::next_action(stage, n, 0);
-    if actions::within_image(len, blocks, n.rest, next) {
-        return moves::advance(stage, n);
+    match actions::place_in(shape, n.rest, next) {
+        Some(_) => moves::advance(stage, n),
+        None => stale(n),
     }
-    stale(n)
 }
 
-// Inner part of made, by value and over bytes. The record moves on by a step made to an image of a length and so many blocks: no array of it is
-// read, nor the image.
-pub fn made_of(len: usize, blocks: u8, n: Numbers) -> Moved
-    ensures { (img p u f : List ℕ) → length img ≡ len → Steps (answered result) (ended_at result) (reached blocks result img p u f) img
-        (made_on blocks img (assemble n p u f)) }
+// Inner part of made, by value and over bytes. The record moves on by a step made to an image of a shape: no array of it is read, nor the image.
+pub fn made_of(shape: Shape, n: Numbers) -> Moved
+    ensures { (img p u f : List ℕ) → length img ≡ shape.len
+        → Steps (answered result) (ended_at result) (reached shape.blocks result img p u f) img
+        (made_on shape.blocks img (assemble n p u f)) }
 {
     match n.phase {
         Phase::Unmounted | Phase::Idle => rests(n),
-        Phase::Busy(stage) => made_busy(len, blocks, stage, n),
+        Phase::Busy(stage) => made_busy(shape, stage, n),
     }
 }
 

@@ -4,6 +4,7 @@ ghost use Rattle.flash.specs.Flash.{block, size_of};
 ghost use Rattle.board.specs.Record.{allowed};
 ghost use Rattle.board.specs.Mount.{next_block};
 
+use flash::Shape;
 use wire::Refusal;
 
 // The bytes of an image whose length is allowed, and how many blocks they are.
@@ -22,7 +23,7 @@ impl<'a> Image<'a> {
     pub fn try_new(bytes: &'a [u8], blocks: u8) -> Result<Image<'a>, Refusal>
         ensures { Opens bytes.now blocks result }
     {
-        if is_allowed(blocks, bytes.len()) {
+        if is_allowed(Shape::of(bytes, blocks)) {
             Ok(Image { bytes, blocks })
         } else {
             Err(Refusal::ImageLength)
@@ -50,13 +51,13 @@ impl<'a> Image<'a> {
     }
 }
 
-pub fn is_allowed(blocks: u8, len: usize) -> bool
-    ensures { result ≡ allowed blocks len }
+pub fn is_allowed(shape: Shape) -> bool
+    ensures { result ≡ allowed shape.blocks shape.len }
 {
-    let size = flash::size_of(blocks, len);
-    job::is_count(blocks)
-        && len <= 65536
-        && usize::from(blocks) * size == len
+    let size = shape.size();
+    shape.is_count_allowed()
+        && shape.len <= 65536
+        && usize::from(shape.blocks) * size == shape.len
         && size % 128 == 0
         && 256 <= size
 }

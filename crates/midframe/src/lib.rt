@@ -9,7 +9,7 @@ ghost use Rattle.lent.specs.Layout.{record_in};
 ghost use Rattle.midframe.specs.Code.{Stands, Aims, Lies, Ready, Finds, Tried};
 
 use board::Stage;
-use flash::byte_at;
+use flash::{Shape, byte_at};
 use lent::{BLOCK_AT, BLOCKS_AT, CURSOR_AT, END_AT, LAST_AT, PLAN_AT, RECORD_SIZE};
 
 // The numbers of the two stages that program frames.
@@ -36,14 +36,14 @@ pub struct Found {
 
 // ---- what is next
 
-// The record fits an image of the length and so many blocks; its flags stand as they are written.
-fn stands(board: &[u8], len: usize, blocks: u8) -> bool
-    ensures { result ≡ true → Stands blocks board.now len }
+// The record fits an image of the shape; its flags stand as they are written.
+fn stands(board: &[u8], shape: Shape) -> bool
+    ensures { result ≡ true → Stands shape.blocks board.now shape.len }
 {
     byte_at(board, PLAN_AT + lent::MOVES_AT) < 2
         && byte_at(board, PLAN_AT + lent::DROPS_AT) < 2
-        && byte_at(board, BLOCKS_AT) == blocks
-        && len == unpack::word_in(board, LAST_AT) as usize + 1
+        && byte_at(board, BLOCKS_AT) == shape.blocks
+        && shape.len == unpack::word_in(board, LAST_AT) as usize + 1
 }
 
 // The byte that is next in a frame.
@@ -74,32 +74,26 @@ fn spot(board: &[u8]) -> Option<Aim>
 }
 
 // A byte by its place in the image, where that lies in it.
-fn placed(len: usize, blocks: u8, aim: Aim) -> Option<Found>
-    ensures { IfSome result (Lies blocks len aim) }
+fn placed(shape: Shape, aim: Aim) -> Option<Found>
+    ensures { IfSome result (Lies shape.blocks shape.len aim) }
 {
-    let Aim {
-        stage,
-        block,
+    let at = shape.place(aim.block, aim.at)?;
+    Some(Found {
+        stage: aim.stage,
         at,
-        byte,
-    } = aim;
-    let size = flash::size_of(blocks, len);
-    if job::lies_in(blocks, size, block, at) {
-        let at = block as usize * size + at;
-        return Some(Found { stage, at, byte });
-    }
-    None
+        byte: aim.byte,
+    })
 }
 
 // Inner part of grommetide_next, which goes on by the record's numbers where nothing is found. The byte that is next, if the record is in a frame
 // and its flags stand as they are written. That it is the faster way is not promised: one that always finds nothing would do.
-pub fn try_next(len: usize, blocks: u8, board: &[u8]) -> Option<Found>
-    ensures { IfSome result (Finds blocks len board.now) }
+pub fn try_next(shape: Shape, board: &[u8]) -> Option<Found>
+    ensures { IfSome result (Finds shape.blocks shape.len board.now) }
 {
-    if board.len() != RECORD_SIZE || !stands(board, len, blocks) {
+    if board.len() != RECORD_SIZE || !stands(board, shape) {
         return None;
     }
-    placed(len, blocks, spot(board)?)
+    placed(shape, spot(board)?)
 }
 
 // ---- the cursor counts it, unless it is the frame's last
@@ -147,11 +141,11 @@ fn count(stage: Stage, board: &mut [u8]) -> bool
 }
 
 // Inner part of grommetide_made, which goes on by the record's numbers where this says no: a step that the caller made.
-pub fn try_made(len: usize, blocks: u8, board: &mut [u8]) -> bool
-    ensures { (img : List ℕ) → length img ≡ len → Tried (made_on blocks img (record_in board.old)) result img board.old
+pub fn try_made(shape: Shape, board: &mut [u8]) -> bool
+    ensures { (img : List ℕ) → length img ≡ shape.len → Tried (made_on shape.blocks img (record_in board.old)) result img board.old
         img board.new }
 {
-    let Some(found) = try_next(len, blocks, board) else {
+    let Some(found) = try_next(shape, board) else {
         return false;
     };
     count(found.stage, board)
@@ -162,7 +156,7 @@ pub fn try_byte(image: &mut [u8], blocks: u8, board: &mut [u8]) -> bool
     ensures { Tried (step_on blocks image.old (record_in board.old)) result image.old board.old
         image.new board.new }
 {
-    let Some(found) = try_next(image.len(), blocks, board) else {
+    let Some(found) = try_next(Shape::of(image, blocks), board) else {
         return false;
     };
     let counts = count(found.stage, board);

@@ -7,6 +7,7 @@ ghost use Rattle.board.specs.Queue.{others_blank, same_image};
 ghost use Rattle.queue.specs.Calls.{as_recorded};
 
 use board::Rest;
+use flash::Shape;
 use looks::image::Image;
 use looks::surveys;
 use serving::room;
@@ -23,7 +24,7 @@ fn others_blank(image: &Image<'_>, number: u8) -> bool
 pub fn same_image(image: &Image<'_>, rest: Rest) -> bool
     ensures { result ≡ same_image image.now.blocks image.now.bytes.now (idle no_places rest) }
 {
-    job::same_shape(image.bytes.len(), image.blocks, rest)
+    job::same_shape(Shape::of(image.bytes, image.blocks), rest)
         && rest.block < image.blocks
         && others_blank(image, rest.block)
 }

@@ -8,6 +8,7 @@ ghost use Rattle.queue.specs.Calls.{place_in, located_in, heard_in, Finds};
 
 use crate::gate;
 use board::{Phase, Record, Rest};
+use flash::Shape;
 use frame::{Edition, Host, ObjectId};
 use looks::image::Image;
 use wire::Refusal;
@@ -25,7 +26,7 @@ fn at_place(image: &Image<'_>, rest: Rest, place: u16, id: ObjectId) -> Result<S
     ensures by_place { result ≡ located_in image.now.blocks image.now.bytes.now rest place id }
     ensures inside { IfOk result (λ s. s.at + s.size ≤ length image.now.bytes.now) }
 {
-    if !job::same_shape(image.bytes.len(), image.blocks, rest) {
+    if !job::same_shape(Shape::of(image.bytes, image.blocks), rest) {
         return Err(Refusal::Stale);
     }
     if place == 0 {

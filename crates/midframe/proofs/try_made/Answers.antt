@@ -9,5 +9,5 @@ use Rattle.midframe.proofs.try_made.Goals as goal
 pub returns : goal.returns
 returns c =
     let f = c.in-Some.ensures in
-    λ img e. made-on c.args.blocks c.args.board.now _ _ _ _ _ f.ready (c.count.ensures c.args.blocks) img
-    (ap (λ (n : ℕ). next_on c.args.blocks n (record_in c.args.board.now)) e ∙ f.next)
+    λ img e. made-on c.args.shape.blocks c.args.board.now _ _ _ _ _ f.ready (c.count.ensures c.args.shape.blocks) img
+    (ap (λ (n : ℕ). next_on c.args.shape.blocks n (record_in c.args.board.now)) e ∙ f.next)

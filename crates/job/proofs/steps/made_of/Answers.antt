@@ -9,11 +9,11 @@ use Rattle.job.proofs.steps.made_of.Goals as goal
 pub returns-in-Unmounted : goal.returns-in-Unmounted
 unfolding made_on
 returns-in-Unmounted c =
-    λ img p u f e. rw c.rests.ensures (stays_in (λ (x : Phase). made_in_of c.args.blocks x img (assemble c.args.n p u f)) _ _ _
+    λ img p u f e. rw c.rests.ensures (stays_in (λ (x : Phase). made_in_of c.args.shape.blocks x img (assemble c.args.n p u f)) _ _ _
     c.in-Unmounted.is (refl, refl))
 
 pub returns-in-Busy : goal.returns-in-Busy
 unfolding made_on
 returns-in-Busy c =
-    λ img p u f e. in_phase (λ (x : Phase). made_in_of c.args.blocks x img (assemble c.args.n p u f)) _ _ c.in-Busy.is _ _ _ _
+    λ img p u f e. in_phase (λ (x : Phase). made_in_of c.args.shape.blocks x img (assemble c.args.n p u f)) _ _ c.in-Busy.is _ _ _ _
     (c.made_busy.ensures img p u f e)
