@@ -73,7 +73,7 @@ def counts(texts):
     yield "1 enums of two or three variants, some with fields and some without", enums
     yield "1 flags in structs", [f"{p}: {n}.{f}" for p, n, b in structs(texts) for f in re.findall(r"(\w+): bool", b)]
     yield "1 fields and parameters that are numbers for a kind", list(
-        lines(texts, r"\b(answer|which|kind|by|edition|field|word): (u8|usize)\b|\bconst (NONE|UNREAD)\b"))
+        lines(texts, r"\b(answer|which|kind|by|edition|field): (u8|usize)\b(?!::)|\bconst (NONE|UNREAD)\b"))
     shapes = collections.defaultdict(list)
     for path, text in texts:
         for name, _, body in functions(text):
