@@ -10,7 +10,7 @@ use frame::{Edition, Fault};
 
 // What the frames of a block come to, as far as they were read.
 #[derive(Clone, Copy)]
-pub struct Progress {
+pub(crate) struct Progress {
     // where the next frame stands, and the least id that it may have if it is settled
     pub end: u16,
     pub next: usize,
@@ -21,11 +21,12 @@ pub struct Progress {
 
 // The same, and the length of a torn frame after them, 0 for none.
 #[derive(Clone, Copy)]
-pub struct Walk {
+pub(crate) struct Walk {
     pub progress: Progress,
     pub torn: usize,
 }
 
+// Four states, the last with its fault: no Option or Result says them.
 #[derive(Clone, Copy)]
 pub enum BlockKind {
     Blank,
@@ -36,7 +37,7 @@ pub enum BlockKind {
 
 // The settled objects of a block: how many, and U.
 #[derive(Clone, Copy)]
-pub struct Tally {
+pub(crate) struct Tally {
     pub count: u16,
     pub used: u16,
 }
