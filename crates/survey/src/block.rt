@@ -1,5 +1,5 @@
 // A block surveyed: all that a board has to know of it, in one pass.
-ghost use Rattle.std.specs.Prelude.{◌≡◌, ◌≤◌, ◌<◌, length, replicate};
+ghost use Rattle.std.specs.Prelude.{◌≡◌, ◌≤◌, ◌<◌, length, replicate, unwrap_or};
 ghost use Rattle.std.proofs.Math.Option.{none};
 ghost use Rattle.frame.specs.Code.{peek_at, value_len_of};
 ghost use Rattle.journal.specs.Block.{header_len, block_max, edition_in, of_header};
@@ -37,10 +37,15 @@ impl<'a> Block<'a> {
                 FrameRead::Blank => {
                     return Ok(Walk {
                         progress: p,
-                        torn: 0,
+                        torn: None,
                     });
                 }
-                FrameRead::Torn(torn) => return Ok(Walk { progress: p, torn }),
+                FrameRead::Torn(n) => {
+                    return Ok(Walk {
+                        progress: p,
+                        torn: Some(n),
+                    });
+                }
                 FrameRead::Wrong(fault) => return Err(fault),
             }
         }
@@ -72,8 +77,8 @@ impl<'a> Block<'a> {
 
     // A valid block, with its places.
     fn found(self, places: &[u16; 256], walk: Walk) -> Survey
-        requires { (walk.torn ≤ block_max) × ((tally_of self.edition (lengths_at self.edition self.bytes.now places.now 256 0)).used ≤ block_max) }
-        ensures { result ≡ found_survey self.entry.edition self.entry.bytes.now places.now walk.progress walk.torn }
+        requires { (unwrap_or walk.torn 0 ≤ block_max) × ((tally_of self.edition (lengths_at self.edition self.bytes.now places.now 256 0)).used ≤ block_max) }
+        ensures { result ≡ found_survey self.entry.edition self.entry.bytes.now places.now walk.progress (unwrap_or walk.torn 0) }
     {
         let Progress {
             end,
@@ -87,7 +92,7 @@ impl<'a> Block<'a> {
             edition: self.edition,
             time: header::created(self.bytes),
             end,
-            torn: walk.torn as u16,
+            torn: walk.torn.unwrap_or(0) as u16,
             since,
             pending,
             count,

@@ -19,11 +19,11 @@ pub(crate) struct Progress {
     pub pending: [u16; 4],
 }
 
-// The same, and the length of a torn frame after them, 0 for none.
+// The same, and the length of a torn frame after them.
 #[derive(Clone, Copy)]
 pub(crate) struct Walk {
     pub progress: Progress,
-    pub torn: usize,
+    pub torn: Option<usize>,
 }
 
 // Four states, the last with its fault: no Option or Result says them.
@@ -49,7 +49,7 @@ pub struct Survey {
     // the format's edition, of a block that isn't valid the first
     pub edition: Edition,
     pub time: u32,
-    // where its whole frames end, and the length of a torn one after them, 0 for none
+    // where its whole frames end, and the length of a torn one after them, 0 for none: no frame has that length, and looks and store add it to `end`
     pub end: u16,
     pub torn: u16,
     // for each host the offset past its last commit or abort, or a reset, and its pending frames' bytes
