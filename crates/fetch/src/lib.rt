@@ -99,6 +99,7 @@ fn next_pending(part: &[u8], edition: Edition, since: [u16; 4], source: u16) -> 
     ensures { (b places : List ℕ) → result ≡ fetched_of edition b places (next_pending edition since source 0 (drop source part.now)) }
 {
     let mut at = source as usize;
+    // a frame's length at a time, as far as frames are whole: no iterator of std does
     while let FrameRead::Whole(head) = reader::read_frame(part, edition, at, 0) {
         let next = at + frame::frame_len(edition, head);
         if is_pending(since, at, head) {
