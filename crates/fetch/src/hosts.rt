@@ -7,7 +7,7 @@ use frame::Host;
 pub fn of_host(numbers: [u16; 4], host: Host) -> u16
     ensures { result ≡ get_or numbers host.0 0 }
 {
-    flash::get_or(&numbers, host.0 as usize, 0)
+    flash::get_or(&numbers, usize::from(host.0), 0)
 }
 
 // The numbers with another one for a host. Place by place: with a store at an index that only the run knows, a survey of 4,096 bytes of puts takes 3,999 ns

@@ -46,7 +46,8 @@ impl Front<'_> {
         self.test(at, byte as usize, byte as usize, field, place)
     }
 
-    // Length's high byte, and a kind from lo to hi: a length may be that of two kinds, a put and a delete or a commit and an abort, whose numbers follow each other.
+    // Length's high byte, and a kind from lo to hi: of a put and a delete, or a commit and an abort, a length may be either's, and their numbers
+    // follow each other.
     fn front_misfit(&self, lo: u8, hi: u8) -> Option<Misfit>
         ensures { result ≡ front_misfit lo hi self.now.bytes.now }
     {
