@@ -34,11 +34,11 @@ fn value_in(id: ObjectId, place: u16, head: Head) -> Option<Found>
 {
     match head {
         Head::Put(_, i, size) if i == id => Some(Found {
-            at: place as usize + PUT_VALUE_AT,
+            at: usize::from(place) + PUT_VALUE_AT,
             size,
         }),
         Head::Settled(i, size) if i == id => Some(Found {
-            at: place as usize + SETTLED_VALUE_AT,
+            at: usize::from(place) + SETTLED_VALUE_AT,
             size,
         }),
         _ => None,
@@ -88,7 +88,7 @@ fn is_pending(since: [u16; 4], at: usize, head: Head) -> bool
     ensures { result ≡ pending_head since at head }
 {
     match head {
-        Head::Put(host, _, _) | Head::Delete(host, _) => hosts::of_host(since, host) as usize <= at,
+        Head::Put(host, _, _) | Head::Delete(host, _) => usize::from(hosts::of_host(since, host)) <= at,
         _ => false,
     }
 }
@@ -99,6 +99,7 @@ fn next_pending(part: &[u8], edition: Edition, since: [u16; 4], source: u16) -> 
     ensures { (b places : List ℕ) → result ≡ fetched_of edition b places (next_pending edition since source 0 (drop source part.now)) }
 {
     let mut at = source as usize;
+    // a frame's length at a time, as far as frames are whole: no iterator of std does
     while let FrameRead::Whole(head) = reader::read_frame(part, edition, at, 0) {
         let next = at + frame::frame_len(edition, head);
         if is_pending(since, at, head) {

@@ -6,7 +6,8 @@ ghost use Rattle.frame.specs.Frame.{sealed, buffer, encode};
 ghost use Rattle.frame.specs.Code.{frame_of};
 
 use crate::{
-    BODY_AT, BUFFER_LEN, Edition, FINISH, Head, Host, KIND_AT, ObjectId, VALUE_MAX, check_len,
+    ABORT_KIND, BODY_AT, BUFFER_LEN, CLOSED_KIND, COMMIT_KIND, DELETE_KIND, Edition, FINISH, Head,
+    Host, KIND_AT, ObjectId, PUT_KIND, RESET_KIND, SETTLED_KIND, VALUE_MAX, check_len,
 };
 use crc::crc32;
 
@@ -25,7 +26,7 @@ fn seal(g: &mut [u8], edition: Edition, m: usize)
     }
 }
 
-// The frame of a kind whose body is fields and a value, and zeros after it. The kind is the format's own number, which goes into the frame as it is.
+// The frame of a kind whose body is fields and a value, and zeros after it.
 fn assemble(edition: Edition, kind: u8, fields: &[u8], value: &[u8]) -> [u8; BUFFER_LEN]
     requires { (length fields.now ≤ 3) × (length value.now ≤ value_max) }
     ensures { result ≡ buffer (sealed edition (u16le (overhead edition + length (fields.now ++ value.now)) ++ (u16le kind ++ (fields.now ++ value.now)))) }
@@ -45,8 +46,8 @@ fn assemble(edition: Edition, kind: u8, fields: &[u8], value: &[u8]) -> [u8; BUF
 fn change_fields(host: Host, id: ObjectId) -> [u8; 3]
     ensures { result ≡ host.0 ∷ u16le id.0 }
 {
-    let bytes = id.0.to_le_bytes();
-    [host.0, bytes[0], bytes[1]]
+    let [low, high] = id.0.to_le_bytes();
+    [host.0, low, high]
 }
 
 // The frame with this head and this value, of which at most VALUE_MAX bytes are taken, and zeros after it.
@@ -56,13 +57,13 @@ pub fn encode_frame(edition: Edition, head: Head, value: &[u8]) -> [u8; BUFFER_L
 {
     let value = flash::front(value, VALUE_MAX);
     match head {
-        Head::Put(host, id, _) => assemble(edition, 1, &change_fields(host, id), value),
-        Head::Delete(host, id) => assemble(edition, 2, &change_fields(host, id), b""),
-        Head::Commit(Host(host)) => assemble(edition, 3, &[host], b""),
-        Head::Abort(Host(host)) => assemble(edition, 4, &[host], b""),
-        Head::Settled(ObjectId(id), _) => assemble(edition, 5, &id.to_le_bytes(), value),
+        Head::Put(host, id, _) => assemble(edition, PUT_KIND, &change_fields(host, id), value),
+        Head::Delete(host, id) => assemble(edition, DELETE_KIND, &change_fields(host, id), b""),
+        Head::Commit(Host(host)) => assemble(edition, COMMIT_KIND, &[host], b""),
+        Head::Abort(Host(host)) => assemble(edition, ABORT_KIND, &[host], b""),
+        Head::Settled(ObjectId(id), _) => assemble(edition, SETTLED_KIND, &id.to_le_bytes(), value),
         // what stands where a closed frame's check was is part of what it ignores
-        Head::Closed(_) => assemble(Edition::First, 0, b"", value),
-        Head::Reset => assemble(edition, 7, b"", b""),
+        Head::Closed(_) => assemble(Edition::First, CLOSED_KIND, b"", value),
+        Head::Reset => assemble(edition, RESET_KIND, b"", b""),
     }
 }

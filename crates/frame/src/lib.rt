@@ -62,6 +62,22 @@ pub const PUT_VALUE_AT: usize = BODY_AT + 3;
 
 pub const SETTLED_VALUE_AT: usize = BODY_AT + 2;
 
+// The kinds' numbers in a frame. `Head` is the enum of kinds; these are bytes, of which a reader tests ranges and which any byte may stand for: as
+// an enum beside it, each use would turn into its number again.
+pub const CLOSED_KIND: u8 = 0;
+
+pub const PUT_KIND: u8 = 1;
+
+pub const DELETE_KIND: u8 = 2;
+
+pub const COMMIT_KIND: u8 = 3;
+
+pub const ABORT_KIND: u8 = 4;
+
+pub const SETTLED_KIND: u8 = 5;
+
+pub const RESET_KIND: u8 = 7;
+
 // A frame's last byte.
 pub const FINISH: u8 = 254;
 
@@ -92,7 +108,7 @@ pub enum Head {
     Reset,
 }
 
-// What stands at a place: of a torn frame its length, of wrong bytes the first bad field.
+// What stands at a place: of a torn frame its length, of wrong bytes the first bad field. Four outcomes, each its own: no Option or Result says them.
 #[derive(Clone, Copy)]
 pub enum FrameRead {
     Blank,

@@ -4,15 +4,13 @@ ghost use Rattle.frame.specs.Code.{frame_of};
 ghost use Rattle.journal.specs.Index.{place_copied};
 ghost use Rattle.job.specs.Code.{ends_by, committer};
 
-use frame::{Head, Host};
-
-const COMMIT: u8 = 3;
+use frame::{COMMIT_KIND, Head, Host};
 
 // The host whose commit a frame is, by its bytes for kind and host.
 pub fn committer(kind: u8, host: u8) -> Option<Host>
     ensures { result ≡ committer kind host }
 {
-    (kind == COMMIT).then_some(Host(host))
+    (kind == COMMIT_KIND).then_some(Host(host))
 }
 
 // The places once a frame is copied to an offset: a pending change counts already where the job ends with its host's commit.

@@ -11,8 +11,9 @@ use crate::{ID_AT, ID_HIGH, KIND_HIGH, LENGTH_HIGH, SETTLED_HIGH};
 use crc::crc32;
 use flash::byte_at;
 use frame::{
-    BODY_AT, DELETE_LEN, END_LEN, Edition, FINISH, Fault, Field, HOST_MAX, ID_MAX, KIND_AT,
-    RESET_LEN, check_len,
+    ABORT_KIND, BODY_AT, CLOSED_KIND, COMMIT_KIND, DELETE_KIND, DELETE_LEN, END_LEN, Edition,
+    FINISH, Fault, Field, HOST_MAX, ID_MAX, KIND_AT, PUT_KIND, RESET_KIND, RESET_LEN, SETTLED_KIND,
+    check_len,
 };
 
 // The first byte of a frame that does not fit: its offset, and what is wrong if the frame isn't cut short there.
@@ -45,12 +46,13 @@ impl Front<'_> {
         self.test(at, byte as usize, byte as usize, field, place)
     }
 
-    // Length's high byte, and a kind from lo to hi.
-    fn front_misfit(&self, lo: usize, hi: usize) -> Option<Misfit>
+    // Length's high byte, and a kind from lo to hi: of a put and a delete, or a commit and an abort, a length may be either's, and their numbers
+    // follow each other.
+    fn front_misfit(&self, lo: u8, hi: u8) -> Option<Misfit>
         ensures { result ≡ front_misfit lo hi self.now.bytes.now }
     {
         self.exact(LENGTH_HIGH, 0, Field::Length, 0)
-            .or(self.test(KIND_AT, lo, hi, Field::Kind, KIND_AT))
+            .or(self.test(KIND_AT, lo as usize, hi as usize, Field::Kind, KIND_AT))
             .or(self.exact(KIND_HIGH, 0, Field::Kind, KIND_AT))
     }
 
@@ -80,13 +82,13 @@ impl Front<'_> {
     }
 
     // Only a frame of a delete's length can be a delete.
-    fn last_kind(&self) -> usize
+    fn last_kind(&self) -> u8
         ensures { result ≡ last_kind (eqb self.now.len (delete_len self.now.edition)) }
     {
         if self.len == DELETE_LEN + check_len(self.edition) {
-            2
+            DELETE_KIND
         } else {
-            1
+            PUT_KIND
         }
     }
 
@@ -95,7 +97,7 @@ impl Front<'_> {
         requires { put_len self.now.edition 0 ≤ self.now.len }
         ensures { result ≡ laid_misfit self.now.len (change_layout self.now.edition self.now.len) self.now.bytes.now }
     {
-        self.front_misfit(1, self.last_kind())
+        self.front_misfit(PUT_KIND, self.last_kind())
             .or(self.test_host())
             .or(self.exact(ID_HIGH, 0, Field::Id, ID_AT))
             .or(self.seal_misfit((self.len - 1 - check_len(self.edition)) as usize))
@@ -106,7 +108,7 @@ impl Front<'_> {
         requires { self.now.len ≡ end_len self.now.edition }
         ensures { result ≡ laid_misfit self.now.len (end_layout self.now.edition) self.now.bytes.now }
     {
-        self.front_misfit(3, 4)
+        self.front_misfit(COMMIT_KIND, ABORT_KIND)
             .or(self.test_host())
             .or(self.seal_misfit(BODY_AT + 1))
     }
@@ -116,7 +118,7 @@ impl Front<'_> {
         requires { settled_len self.now.edition 0 ≤ self.now.len }
         ensures { result ≡ laid_misfit self.now.len (settled_layout self.now.edition next self.now.len) self.now.bytes.now }
     {
-        self.front_misfit(5, 5)
+        self.front_misfit(SETTLED_KIND, SETTLED_KIND)
             .or(self.test(BODY_AT, next, ID_MAX, Field::Id, BODY_AT))
             .or(self.exact(SETTLED_HIGH, 0, Field::Id, BODY_AT))
             .or(self.seal_misfit((self.len - 1 - check_len(self.edition)) as usize))
@@ -128,7 +130,7 @@ impl Front<'_> {
         ensures { result ≡ laid_misfit self.now.len (closed_layout self.now.len) self.now.bytes.now }
     {
         let last = self.len as usize - 1;
-        self.front_misfit(0, 0)
+        self.front_misfit(CLOSED_KIND, CLOSED_KIND)
             .or(self.exact(last, FINISH, Field::Finish, last))
     }
 
@@ -137,10 +139,11 @@ impl Front<'_> {
         requires { self.now.len ≡ reset_len self.now.edition }
         ensures { result ≡ laid_misfit self.now.len (reset_layout self.now.edition) self.now.bytes.now }
     {
-        self.front_misfit(7, 7).or(self.seal_misfit(BODY_AT))
+        self.front_misfit(RESET_KIND, RESET_KIND)
+            .or(self.seal_misfit(BODY_AT))
     }
 
-    // A frame of kinds 1 to 4 or 7, by its length.
+    // A frame that is neither closed nor settled, by its length.
     fn host_misfit(&self) -> Option<Misfit>
         requires { ClosedLength self.now.edition self.now.len }
         ensures { result ≡ laid_misfit self.now.len (host_layout self.now.edition self.now.len) self.now.bytes.now }
@@ -163,7 +166,7 @@ impl Front<'_> {
         let kind = self.kind();
         if only_settled(self.edition, next, self.len, kind) {
             self.settled_misfit(next)
-        } else if kind == 0 {
+        } else if kind == CLOSED_KIND {
             self.closed_misfit()
         } else {
             self.host_misfit()

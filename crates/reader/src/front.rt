@@ -13,6 +13,7 @@ pub struct Front<'a> {
     pub len: u8,
     ghost first: { len ≡ get_or bytes.now 0 0 },
     ghost within: { len ≤ length bytes.now },
+    // true of any u8: the check sees it of a slice in a local, but not in a field
     ghost small: { (i : ℕ) → get_or bytes.now i 0 < 256 },
 }
 

@@ -3,7 +3,7 @@ ghost use Rattle.std.specs.Prelude.{◌≡◌};
 ghost use Rattle.frame.specs.Reader.{has_length, only_settled};
 
 use crate::{MAX_PUT, MAX_SETTLED};
-use frame::{END_LEN, Edition, ID_MAX, PUT_LEN, RESET_LEN, SETTLED_LEN, check_len};
+use frame::{END_LEN, Edition, ID_MAX, PUT_LEN, RESET_LEN, SETTLED_KIND, SETTLED_LEN, check_len};
 
 // Some frame that may stand has n bytes.
 pub fn has_length(edition: Edition, next: usize, n: u8) -> bool
@@ -24,5 +24,5 @@ pub fn only_settled(edition: Edition, next: usize, n: u8, k: u8) -> bool
     next <= ID_MAX
         && SETTLED_LEN + check <= n
         && n as usize <= MAX_SETTLED + check as usize
-        && (k == 5 || n == SETTLED_LEN + check)
+        && (k == SETTLED_KIND || n == SETTLED_LEN + check)
 }

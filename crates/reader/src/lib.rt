@@ -15,8 +15,9 @@ mod whole;
 
 use flash::byte_at;
 use frame::{
-    BODY_AT, Edition, Fault, Field, FrameRead, Head, Host, KIND_AT, ObjectId, PUT_LEN,
-    PUT_VALUE_AT, RESET_LEN, SETTLED_LEN, SETTLED_VALUE_AT, VALUE_MAX, check_len,
+    ABORT_KIND, BODY_AT, CLOSED_KIND, COMMIT_KIND, DELETE_KIND, Edition, Fault, Field, FrameRead,
+    Head, Host, KIND_AT, ObjectId, PUT_KIND, PUT_LEN, PUT_VALUE_AT, RESET_LEN, SETTLED_KIND,
+    SETTLED_LEN, SETTLED_VALUE_AT, VALUE_MAX, check_len,
 };
 use front::Front;
 use lengths::has_length;
@@ -62,16 +63,16 @@ fn head(bytes: &[u8], edition: Edition) -> Head
     let check = check_len(edition);
     let host = Host(byte_at(bytes, BODY_AT));
     match byte_at(bytes, KIND_AT) {
-        0 => Head::Closed(value_count(bytes, BODY_AT, n, RESET_LEN)),
-        1 => Head::Put(
+        CLOSED_KIND => Head::Closed(value_count(bytes, BODY_AT, n, RESET_LEN)),
+        PUT_KIND => Head::Put(
             host,
             id_at(bytes, ID_AT),
             value_count(bytes, PUT_VALUE_AT, n, PUT_LEN + check),
         ),
-        2 => Head::Delete(host, id_at(bytes, ID_AT)),
-        3 => Head::Commit(host),
-        4 => Head::Abort(host),
-        5 => Head::Settled(
+        DELETE_KIND => Head::Delete(host, id_at(bytes, ID_AT)),
+        COMMIT_KIND => Head::Commit(host),
+        ABORT_KIND => Head::Abort(host),
+        SETTLED_KIND => Head::Settled(
             id_at(bytes, BODY_AT),
             value_count(bytes, SETTLED_VALUE_AT, n, SETTLED_LEN + check),
         ),
@@ -87,15 +88,13 @@ fn read_laid(front: &Front<'_>, next: usize) -> FrameRead
     if front.being_closed() {
         return FrameRead::Torn(front.len as usize);
     }
-    match front.layout_misfit(next) {
-        None => FrameRead::Whole(head(front.bytes, front.edition)),
-        Some(misfit) => {
-            if front.tears(next) && flash::is_blank(flash::rest(front.bytes, misfit.at)) {
-                FrameRead::Torn(front.len as usize)
-            } else {
-                FrameRead::Wrong(misfit.fault)
-            }
-        }
+    let Some(misfit) = front.layout_misfit(next) else {
+        return FrameRead::Whole(head(front.bytes, front.edition));
+    };
+    if front.tears(next) && flash::is_blank(flash::rest(front.bytes, misfit.at)) {
+        FrameRead::Torn(front.len as usize)
+    } else {
+        FrameRead::Wrong(misfit.fault)
     }
 }
 

@@ -7,8 +7,8 @@ use crate::front::Front;
 use crate::{ID_HIGH, KIND_HIGH, LENGTH_HIGH, MAX_PUT, MAX_SETTLED, SETTLED_HIGH};
 use crc::crc32;
 use frame::{
-    BODY_AT, DELETE_LEN, END_LEN, Edition, FINISH, HOST_MAX, KIND_AT, PUT_LEN, SETTLED_LEN,
-    check_len,
+    ABORT_KIND, BODY_AT, COMMIT_KIND, DELETE_KIND, DELETE_LEN, END_LEN, Edition, FINISH, HOST_MAX,
+    KIND_AT, PUT_KIND, PUT_LEN, SETTLED_KIND, SETTLED_LEN, check_len,
 };
 
 // The last host, as a byte.
@@ -20,6 +20,7 @@ impl Front<'_> {
         requires { m + 4 < length self.now.bytes.now }
         ensures { result ≡ checked m self.now.bytes.now }
     {
+        // a short name: the next line has it five times
         let t = self.bytes;
         crc32(&t[..m]) == u32::from_le_bytes([t[m], t[m + 1], t[m + 2], t[m + 3]])
     }
@@ -37,7 +38,7 @@ impl Front<'_> {
             }
     }
 
-    // The body of a put or a delete, and its seal.
+    // The body of a put or a delete, and its seal. The length's bounds, here and below, are a u8 and a usize: one range of usize would be longer.
     #[tactic(auto, unfolding(crate::specs::Whole::is_change))]
     fn is_change(&self) -> bool
         ensures { result ≡ is_change self.now.edition self.now.len self.now.bytes.now }
@@ -82,10 +83,10 @@ impl Front<'_> {
             && self.bytes[LENGTH_HIGH] == 0
             && self.bytes[KIND_HIGH] == 0
             && match self.bytes[KIND_AT] {
-                1 => self.is_change(),
-                2 => self.len == DELETE_LEN + check_len(self.edition) && self.is_change(),
-                3 | 4 => self.is_end(),
-                5 => self.is_settled(next),
+                PUT_KIND => self.is_change(),
+                DELETE_KIND => self.len == DELETE_LEN + check_len(self.edition) && self.is_change(),
+                COMMIT_KIND | ABORT_KIND => self.is_end(),
+                SETTLED_KIND => self.is_settled(next),
                 _ => false,
             }
     }
@@ -96,8 +97,5 @@ impl Front<'_> {
 pub fn is_whole(bytes: &[u8], edition: Edition, next: usize) -> bool
     ensures { result ≡ is_whole edition next bytes.now }
 {
-    match Front::of(bytes, edition) {
-        Some(front) => front.is_whole(next),
-        None => false,
-    }
+    Front::of(bytes, edition).is_some_and(|front| front.is_whole(next))
 }

@@ -10,7 +10,7 @@ use lib.ListN.{length, length-map, get_or, take, drop, replicate, length-drop, t
 use lib.Seq.{length-take-le}
 use borrow.Author.Tests.{le-leb}
 use Rattle.flash.specs.Bytes.{all_ff}
-use Rattle.std.specs.Prelude.{Result, Ok, Err}
+use Rattle.std.specs.Prelude.{Option, Some, None, unwrap_or, Result, Ok, Err}
 use Rattle.frame.specs.declared.Edition.{Edition}
 use Rattle.frame.specs.declared.Fault.{Fault}
 use Rattle.frame.specs.Frame.{Frame, total, next_of}
@@ -175,29 +175,32 @@ module _ (ed : Edition) (b : List ℕ) (g : ed ≡ edition_in b) (h : header_len
 
   module _ (w : Walk) (e : Ok w ≡ walk_of ed frames_scan) where
     -- a torn frame would fit
-    pub torn_fits : w.torn ≤ length b
+    pub torn_fits : unwrap_or w.torn 0 ≤ length b
     torn_fits = go frames_scan.tail refl e
       where
-        go : (c : Tail) → frames_scan.tail ≡ c → Ok w ≡ walked (progress_of ed fs) c → w.torn ≤ length b
-        go clean q z = let y : w.torn ≡ 0 = cc in omega arith
+        go : (c : Tail) → frames_scan.tail ≡ c → Ok w ≡ walked (progress_of ed fs) c → unwrap_or w.torn 0 ≤ length b
+        go clean q z = let y : w.torn ≡ None = cc in omega (arith, ap (λ (m : Option ℕ). unwrap_or m 0) y)
         go (cut n) q z =
-            let k : w.torn ≡ n = cc in
+            let k : w.torn ≡ Some n = cc in
             let y : Torn ed (next_of 0 fs) whole.rest n =
             tail-cut ed (next_of 0 fs) (header_len + total ed fs) whole.rest n (whole.tail ∙ ap ends q) in
-            omega (arith, (torn-fits ed (next_of 0 fs) whole.rest n y).1, scan-length ed 0 header_len (drop header_len b) frames_scan whole, length-drop header_len b)
+            omega (arith, ap (λ (m : Option ℕ). unwrap_or m 0) k, (torn-fits ed (next_of 0 fs) whole.rest n y).1, scan-length ed 0 header_len (drop header_len b) frames_scan whole, length-drop header_len b)
         go (bad f) q z = cc
 
-    module _ (t : List ℕ) (s : Survey) (p : t ≡ places_of ed fs) (u : s ≡ found_survey ed b t w.progress w.torn) where
-      judged_valid : (c : Tail) → frames_scan.tail ≡ c → of_journal (read c) ≡ valid (read c)
-          → w ≡ record { progress = progress_of ed fs; torn = torn_len c } → Judged (of_header b none) (Ok s) t
-      judged_valid c q o z =
-          judged_as (valid (read c)) (of_header b none) (Ok s) t (of-header ∙ ap (λ (x : Tail). of_journal (read x)) q ∙ o)
-          (ap Ok (u ∙ ap₂ (λ (x : List ℕ) (y : Walk). found_survey ed b x y.progress y.torn) p z ∙ survey_found c), p)
+    module _ (t : List ℕ) (s : Survey) (p : t ≡ places_of ed fs) (u : s ≡ found_survey ed b t w.progress (unwrap_or w.torn 0)) where
+      judged_valid : (c : Tail) (n : Option ℕ) → unwrap_or n 0 ≡ torn_len c → frames_scan.tail ≡ c → of_journal (read c) ≡ valid (read c)
+          → w ≡ record { progress = progress_of ed fs; torn = n } → Judged (of_header b none) (Ok s) t
+      judged_valid c n m q o z =
+          judged_as (valid (read c)) (of_header b none) (Ok s) t (of-header ∙ ap (λ (x : Tail). of_journal (read x)) q ∙ o) (
+            ap Ok (u ∙ ap₂ (λ (x : List ℕ) (y : Walk). found_survey ed b x y.progress (unwrap_or y.torn 0)) p z
+                ∙ ap (found_survey ed b (places_of ed fs) (progress_of ed fs)) m ∙ survey_found c),
+            p,
+          )
 
       pub frames_sound : Judged (of_header b none) (Ok s) t
       frames_sound = go frames_scan.tail refl e
         where
           go : (c : Tail) → frames_scan.tail ≡ c → Ok w ≡ walked (progress_of ed fs) c → Judged (of_header b none) (Ok s) t
-          go clean q z = judged_valid clean q refl cc
-          go (cut n) q z = judged_valid (cut n) q refl cc
+          go clean q z = judged_valid clean None refl q refl cc
+          go (cut n) q z = judged_valid (cut n) (Some n) refl q refl cc
           go (bad f) q z = cc

@@ -1,5 +1,5 @@
 -- How the code passes over a block: proofs/Passing.antt, Surveying.antt and HeadLaws.antt tie it to what a survey says.
-use Rattle.std.specs.Prelude.{List, [], ◌∷◌, true, false, ℕ, zero, suc, ◌+◌, ◌-◌, eqb, length, get_or, take, drop, set, Result, Ok, Err}
+use Rattle.std.specs.Prelude.{List, [], ◌∷◌, true, false, ℕ, zero, suc, ◌+◌, ◌-◌, eqb, length, get_or, take, drop, set, Some, None, Result, Ok, Err}
 use Rattle.std.proofs.Math.Option as maybe
 use Rattle.std.proofs.Math.Option.{none, some}
 use Rattle.frame.specs.declared.Edition.{Edition}
@@ -94,10 +94,10 @@ took_places ed b p (head.Settled i n) t = set t i.0 p.end
 took_places ed b p (head.Closed n) t = t
 took_places ed b p head.Reset t = t
 
--- the whole frames, and a torn one's length after them, 0 for none; or the fault of what else follows
+-- the whole frames, and a torn one's length after them; or the fault of what else follows
 abbrev pub walked : Progress → Tail → Result Walk Fault
-walked p clean = Ok (record { progress = p; torn = 0 })
-walked p (cut n) = Ok (record { progress = p; torn = n })
+walked p clean = Ok (record { progress = p; torn = None })
+walked p (cut n) = Ok (record { progress = p; torn = Some n })
 walked p (bad e) = Err e
 
 abbrev pub walk_of : Edition → Scan → Result Walk Fault

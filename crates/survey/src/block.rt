@@ -1,5 +1,5 @@
 // A block surveyed: all that a board has to know of it, in one pass.
-ghost use Rattle.std.specs.Prelude.{◌≡◌, ◌≤◌, ◌<◌, length, replicate};
+ghost use Rattle.std.specs.Prelude.{◌≡◌, ◌≤◌, ◌<◌, length, replicate, unwrap_or};
 ghost use Rattle.std.proofs.Math.Option.{none};
 ghost use Rattle.frame.specs.Code.{peek_at, value_len_of};
 ghost use Rattle.journal.specs.Block.{header_len, block_max, edition_in, of_header};
@@ -7,7 +7,6 @@ ghost use Rattle.journal.specs.Index.{places_of};
 ghost use Rattle.survey.specs.Survey.{survey_of, places_in, state_of, Judged};
 ghost use Rattle.survey.specs.Pass.{scan_block, lengths_at, tally_of, walk_of, empty_survey, found_survey, commit_in};
 
-use crate::header::fault;
 use crate::{BlockKind, Progress, Survey, Tally, Walk, header, pass};
 use frame::{Edition, Fault, Field, FrameRead, Host, SETTLED_LEN};
 use journal::{BLOCK_MAX, HEADER_LEN, IN_TRANSFER, STATE_AT};
@@ -31,16 +30,22 @@ impl<'a> Block<'a> {
             × (places.new ≡ places_of self.entry.edition (scan_block self.entry.edition self.entry.bytes.now).frames) }
     {
         let mut p = Progress::start();
+        // three of the four answers end it, each in its own way
         loop {
             match reader::read_frame(self.bytes, self.edition, p.end as usize, p.next) {
                 FrameRead::Whole(head) => p = p.take(self, head, places),
                 FrameRead::Blank => {
                     return Ok(Walk {
                         progress: p,
-                        torn: 0,
+                        torn: None,
                     });
                 }
-                FrameRead::Torn(torn) => return Ok(Walk { progress: p, torn }),
+                FrameRead::Torn(n) => {
+                    return Ok(Walk {
+                        progress: p,
+                        torn: Some(n),
+                    });
+                }
                 FrameRead::Wrong(fault) => return Err(fault),
             }
         }
@@ -58,7 +63,7 @@ impl<'a> Block<'a> {
         requires { (tally_of self.edition (lengths_at self.edition self.bytes.now places.now 256 0)).used ≤ block_max }
         ensures { result ≡ tally_of self.entry.edition (lengths_at self.entry.edition self.entry.bytes.now places.now 256 0) }
     {
-        let least = SETTLED_LEN as usize + frame::check_len(self.edition) as usize;
+        let least = usize::from(SETTLED_LEN) + usize::from(frame::check_len(self.edition));
         let mut count = 0;
         let mut used = START;
         for place in places {
@@ -72,8 +77,8 @@ impl<'a> Block<'a> {
 
     // A valid block, with its places.
     fn found(self, places: &[u16; 256], walk: Walk) -> Survey
-        requires { (walk.torn ≤ block_max) × ((tally_of self.edition (lengths_at self.edition self.bytes.now places.now 256 0)).used ≤ block_max) }
-        ensures { result ≡ found_survey self.entry.edition self.entry.bytes.now places.now walk.progress walk.torn }
+        requires { (unwrap_or walk.torn 0 ≤ block_max) × ((tally_of self.edition (lengths_at self.edition self.bytes.now places.now 256 0)).used ≤ block_max) }
+        ensures { result ≡ found_survey self.entry.edition self.entry.bytes.now places.now walk.progress (unwrap_or walk.torn 0) }
     {
         let Progress {
             end,
@@ -87,7 +92,7 @@ impl<'a> Block<'a> {
             edition: self.edition,
             time: header::created(self.bytes),
             end,
-            torn: walk.torn as u16,
+            torn: walk.torn.unwrap_or(0) as u16,
             since,
             pending,
             count,
@@ -122,14 +127,17 @@ fn empty(kind: BlockKind) -> Survey
     }
 }
 
-// A block, before any id has a place; a foreign one's fault.
+// A block and the place of every id; a foreign block's fault, with no promise of the places.
 #[tactic(auto, unfolding(crate::specs::Survey::state_of, journal::specs::Block::block_state))]
 fn judge(block: &[u8], places: &mut [u16; 256]) -> Result<Survey, Fault>
-    requires { places.old ≡ replicate 256 0 }
     ensures { Judged (state_of block.now) result places.new }
 {
+    places.fill(0);
     if block.len() < HEADER_LEN || BLOCK_MAX < block.len() {
-        return Err(fault(Field::Length, 0));
+        return Err(Fault {
+            field: Field::Length,
+            place: 0,
+        });
     }
     if flash::is_blank(block) {
         return Ok(empty(BlockKind::Blank));
@@ -149,7 +157,6 @@ fn judge(block: &[u8], places: &mut [u16; 256]) -> Result<Survey, Fault>
 pub fn survey_block(block: &[u8], places: &mut [u16; 256]) -> Survey
     ensures { (result ≡ survey_of (state_of block.now)) × (places.new ≡ places_in (state_of block.now)) }
 {
-    places.fill(0);
     match judge(block, places) {
         Ok(survey) => survey,
         Err(fault) => {
@@ -161,7 +168,7 @@ pub fn survey_block(block: &[u8], places: &mut [u16; 256]) -> Survey
 
 // A host's commit after the frames of a block with this survey: its list applied to the places.
 pub fn commit(block: &[u8], s: Survey, host: Host, places: &mut [u16; 256])
-    requires { (s.end ≤ length block.now) × (length block.now ≤ block_max) }
+    requires { length block.now ≤ block_max }
     ensures { places.new ≡ commit_in block.now s host places.old }
 {
     let block = Block {

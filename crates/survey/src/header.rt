@@ -2,7 +2,6 @@
 ghost use Rattle.std.specs.Prelude.{◌≡◌, [], ◌∷◌, ◌-◌, take, drop};
 ghost use Rattle.flash.specs.Bytes.{u16le, all_ff, same_bytes_of};
 ghost use Rattle.frame.specs.Frame.{kind_at};
-ghost use Rattle.frame.specs.Reader.{fault};
 ghost use Rattle.journal.specs.Block.{header_len, header_kind, spare_at, created_at, edition_in, header_fault};
 ghost use Rattle.survey.specs.Pass.{header_of};
 
@@ -61,32 +60,40 @@ pub fn edition_in(block: &[u8]) -> Edition
     }
 }
 
-// What is wrong with a field.
-pub fn fault(field: Field, place: usize) -> Fault
-    ensures { result ≡ fault field place }
-{
-    Fault { field, place }
-}
-
 // The first field of a header that is wrong.
 #[tactic(auto, unfolding(journal::specs::Block::header_fault))]
 pub fn header_fault(block: &[u8]) -> Result<(), Fault>
     ensures { result ≡ header_of (header_fault block.now) }
 {
     if !stands(block, 0, LENGTH, 0) {
-        return Err(fault(Field::Length, 0));
+        return Err(Fault {
+            field: Field::Length,
+            place: 0,
+        });
     }
     if !is_kind(block, edition_in(block)) {
-        return Err(fault(Field::Kind, KIND_AT));
+        return Err(Fault {
+            field: Field::Kind,
+            place: KIND_AT,
+        });
     }
     if created(block) == 0 {
-        return Err(fault(Field::Created, TIME_AT));
+        return Err(Fault {
+            field: Field::Created,
+            place: TIME_AT,
+        });
     }
     if byte_at(block, STATE_AT) != VALID_DATA {
-        return Err(fault(Field::State, STATE_AT));
+        return Err(Fault {
+            field: Field::State,
+            place: STATE_AT,
+        });
     }
     if !spare_blank(block) {
-        return Err(fault(Field::Spare, SPARE_AT));
+        return Err(Fault {
+            field: Field::Spare,
+            place: SPARE_AT,
+        });
     }
     Ok(())
 }

@@ -10,7 +10,7 @@ use frame::{Edition, Fault};
 
 // What the frames of a block come to, as far as they were read.
 #[derive(Clone, Copy)]
-pub struct Progress {
+pub(crate) struct Progress {
     // where the next frame stands, and the least id that it may have if it is settled
     pub end: u16,
     pub next: usize,
@@ -19,13 +19,14 @@ pub struct Progress {
     pub pending: [u16; 4],
 }
 
-// The same, and the length of a torn frame after them, 0 for none.
+// The same, and the length of a torn frame after them.
 #[derive(Clone, Copy)]
-pub struct Walk {
+pub(crate) struct Walk {
     pub progress: Progress,
-    pub torn: usize,
+    pub torn: Option<usize>,
 }
 
+// Four states, the last with its fault: no Option or Result says them.
 #[derive(Clone, Copy)]
 pub enum BlockKind {
     Blank,
@@ -36,7 +37,7 @@ pub enum BlockKind {
 
 // The settled objects of a block: how many, and U.
 #[derive(Clone, Copy)]
-pub struct Tally {
+pub(crate) struct Tally {
     pub count: u16,
     pub used: u16,
 }
@@ -48,7 +49,7 @@ pub struct Survey {
     // the format's edition, of a block that isn't valid the first
     pub edition: Edition,
     pub time: u32,
-    // where its whole frames end, and the length of a torn one after them, 0 for none
+    // where its whole frames end, and the length of a torn one after them, 0 for none: no frame has that length, and looks and store add it to `end`
     pub end: u16,
     pub torn: u16,
     // for each host the offset past its last commit or abort, or a reset, and its pending frames' bytes

@@ -21,15 +21,15 @@ returns-then-being_closed c =
     c.args.front.now.within c.requires.0
     (sym c.being_closed.ensures ∙ c.if-being_closed.true))
 
-pub returns-in-None : goal.returns-in-None
-returns-in-None c =
+pub returns-in_default : goal.returns-in_default
+returns-in_default c =
     let e = c.args.front.now.edition in
     let n : ℕ = c.args.front.now.len in
     let t : List ℕ = c.args.front.now.bytes.now in
     let k : ℕ = get_or t 2 0 in
     sym (front_match e c.args.next n t c.args.front.now.first c.requires.1 c.args.front.now.within c.requires.0
     (sym c.being_closed.ensures ∙ c.if-being_closed.false)
-    ∙ ap (laid_read (layout_of e c.args.next n k).tears n (decode e k n t) t) (sym c.layout_misfit.ensures ∙ c.in-None.is)
+    ∙ ap (laid_read (layout_of e c.args.next n k).tears n (decode e k n t) t) (sym c.layout_misfit.ensures ∙ c.in_default.is)
     ∙ ap (λ (x : ℕ). read.Whole (head_of (decode e k x t))) c.args.front.now.first ∙ ap read.Whole (sym c.head.ensures))
 
 pub returns-then-is_blank : goal.returns-then-is_blank

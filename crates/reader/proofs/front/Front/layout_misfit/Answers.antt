@@ -25,12 +25,12 @@ closed_misfit-requires c =
     closed-least c.args.self.now.edition c.args.self.now.len (host-length c.args.self.now.edition c.args.next c.args.self.now.len c.kind-kind.result
     (sym c.only_settled.ensures ∙ c.if-only_settled.false) c.requires)
 
-pub returns-then-kind-eq0 : goal.returns-then-kind-eq0
-returns-then-kind-eq0 c =
+pub returns-then-kind-eq-CLOSED_KIND : goal.returns-then-kind-eq-CLOSED_KIND
+returns-then-kind-eq-CLOSED_KIND c =
     c.closed_misfit.ensures
     ∙ ap (λ (l : Layout). laid_misfit c.args.self.now.len l c.args.self.now.bytes.now)
     (sym (layout-closed c.args.self.now.edition c.args.next c.args.self.now.len c.kind-kind.result
-    (sym c.only_settled.ensures ∙ c.if-only_settled.false) c.if-kind-eq0.true))
+    (sym c.only_settled.ensures ∙ c.if-only_settled.false) c.if-kind-eq-CLOSED_KIND.true))
     ∙ ap (λ (k : ℕ). laid_misfit c.args.self.now.len (layout_of c.args.self.now.edition c.args.next c.args.self.now.len k) c.args.self.now.bytes.now)
     c.kind-kind.ensures
 
@@ -38,11 +38,11 @@ pub host_misfit-requires : goal.host_misfit-requires
 host_misfit-requires c = host-length c.args.self.now.edition c.args.next c.args.self.now.len c.kind-kind.result
     (sym c.only_settled.ensures ∙ c.if-only_settled.false) c.requires
 
-pub returns-else-kind-eq0 : goal.returns-else-kind-eq0
-returns-else-kind-eq0 c =
+pub returns-else-kind-eq-CLOSED_KIND : goal.returns-else-kind-eq-CLOSED_KIND
+returns-else-kind-eq-CLOSED_KIND c =
     c.host_misfit.ensures
     ∙ ap (λ (l : Layout). laid_misfit c.args.self.now.len l c.args.self.now.bytes.now)
     (sym (layout-host c.args.self.now.edition c.args.next c.args.self.now.len c.kind-kind.result
-    (sym c.only_settled.ensures ∙ c.if-only_settled.false) c.if-kind-eq0.false))
+    (sym c.only_settled.ensures ∙ c.if-only_settled.false) c.if-kind-eq-CLOSED_KIND.false))
     ∙ ap (λ (k : ℕ). laid_misfit c.args.self.now.len (layout_of c.args.self.now.edition c.args.next c.args.self.now.len k) c.args.self.now.bytes.now)
     c.kind-kind.ensures

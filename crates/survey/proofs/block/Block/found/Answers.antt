@@ -4,4 +4,4 @@ use Rattle.survey.proofs.block.Block.found.Goals as goal
 
 pub returns : goal.returns
 unfolding found_survey
-returns c = rw (c.created.ensures, c.tally-count.ensures)
+returns c = rw (c.created.ensures, c.tally-count.ensures, c.unwrap_or.ensures)
