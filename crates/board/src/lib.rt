@@ -7,7 +7,7 @@ use wire::Refusal;
 
 // The stages of a job. After Wipe comes a block made, Open to Drop, or a torn frame closed, Close; Append is the last. A stage with nothing to do
 // is passed over.
-#[derive(Clone, Copy)]
+#[derive(Clone, Copy, PartialEq, Eq)]
 pub enum Stage {
     Wipe,
     Open,
@@ -18,7 +18,7 @@ pub enum Stage {
     Close,
 }
 
-#[derive(Clone, Copy)]
+#[derive(Clone, Copy, PartialEq, Eq)]
 pub enum Phase {
     Unmounted,
     Idle,
@@ -26,7 +26,7 @@ pub enum Phase {
 }
 
 // What a job is to do; it stays as it is while the job runs.
-#[derive(Clone, Copy, Default)]
+#[derive(Clone, Copy, Default, PartialEq, Eq)]
 pub struct Job {
     // blocks to erase first, and how many of them
     pub wipe: [u8; MAX_BLOCKS],
@@ -48,7 +48,7 @@ pub struct Job {
 }
 
 // How far a job has come.
-#[derive(Clone, Copy, Default)]
+#[derive(Clone, Copy, Default, PartialEq, Eq)]
 pub struct Cursor {
     // the step of the stage, but for Copy
     pub index: u8,
@@ -63,7 +63,7 @@ pub struct Cursor {
 }
 
 // Where a record stands, in a job or not: a further field of a record in no job goes here.
-#[derive(Clone, Copy)]
+#[derive(Clone, Copy, PartialEq, Eq)]
 pub struct Rest {
     // how many blocks the image has, and its length less one
     pub blocks: u8,
@@ -78,7 +78,7 @@ pub struct Rest {
 }
 
 // The board record.
-#[derive(Clone, Copy)]
+#[derive(Clone, Copy, PartialEq, Eq)]
 pub struct Record {
     pub phase: Phase,
     pub rest: Rest,
@@ -93,7 +93,7 @@ pub struct Record {
 
 // What a job's next flash step is: a byte to program at an offset of the image, or from an offset on so many bytes to erase; none;
 // or the refusal that a step call would get.
-#[derive(Clone, Copy)]
+#[derive(Clone, Copy, PartialEq, Eq)]
 pub enum Next {
     Program(usize, u8),
     Erase(usize, usize),
