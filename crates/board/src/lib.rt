@@ -25,7 +25,9 @@ pub enum Phase {
     Busy(Stage),
 }
 
-// What a job is to do; it stays as it is while the job runs.
+// What a job is to do; it stays as it is while the job runs. Numbers, flags and counts, since a lent record of any content is some
+// record (`lent/Layout: record_in`); pack and unpack lay the fields out. Arrays have their count beside them: the record is fixed
+// memory, and Copy.
 #[derive(Clone, Copy, Default, PartialEq, Eq)]
 pub struct Job {
     // blocks to erase first, and how many of them
@@ -62,7 +64,7 @@ pub struct Cursor {
     pub off: u8,
 }
 
-// Where a record stands, in a job or not: a further field of a record in no job goes here.
+// Where a record stands, in a job or not: a further field of a record in no job goes here. Numbers, likewise: any may stand there.
 #[derive(Clone, Copy, PartialEq, Eq)]
 pub struct Rest {
     // how many blocks the image has, and its length less one
