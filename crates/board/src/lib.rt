@@ -7,7 +7,7 @@ use wire::Refusal;
 
 // The stages of a job. After Wipe comes a block made, Open to Drop, or a torn frame closed, Close; Append is the last. A stage with nothing to do
 // is passed over.
-#[derive(Clone, Copy)]
+#[derive(Clone, Copy, PartialEq, Eq)]
 pub enum Stage {
     Wipe,
     Open,
@@ -18,15 +18,17 @@ pub enum Stage {
     Close,
 }
 
-#[derive(Clone, Copy)]
+#[derive(Clone, Copy, PartialEq, Eq)]
 pub enum Phase {
     Unmounted,
     Idle,
     Busy(Stage),
 }
 
-// What a job is to do; it stays as it is while the job runs.
-#[derive(Clone, Copy, Default)]
+// What a job is to do; it stays as it is while the job runs. Numbers, flags and counts, since a lent record of any content is some
+// record (`lent/Layout: record_in`); pack and unpack lay the fields out. Arrays have their count beside them: the record is fixed
+// memory, and Copy.
+#[derive(Clone, Copy, Default, PartialEq, Eq)]
 pub struct Job {
     // blocks to erase first, and how many of them
     pub wipe: [u8; MAX_BLOCKS],
@@ -48,7 +50,7 @@ pub struct Job {
 }
 
 // How far a job has come.
-#[derive(Clone, Copy, Default)]
+#[derive(Clone, Copy, Default, PartialEq, Eq)]
 pub struct Cursor {
     // the step of the stage, but for Copy
     pub index: u8,
@@ -62,8 +64,8 @@ pub struct Cursor {
     pub off: u8,
 }
 
-// Where a record stands, in a job or not: a further field of a record in no job goes here.
-#[derive(Clone, Copy)]
+// Where a record stands, in a job or not: a further field of a record in no job goes here. Numbers, likewise: any may stand there.
+#[derive(Clone, Copy, PartialEq, Eq)]
 pub struct Rest {
     // how many blocks the image has, and its length less one
     pub blocks: u8,
@@ -78,7 +80,7 @@ pub struct Rest {
 }
 
 // The board record.
-#[derive(Clone, Copy)]
+#[derive(Clone, Copy, PartialEq, Eq)]
 pub struct Record {
     pub phase: Phase,
     pub rest: Rest,
@@ -93,7 +95,7 @@ pub struct Record {
 
 // What a job's next flash step is: a byte to program at an offset of the image, or from an offset on so many bytes to erase; none;
 // or the refusal that a step call would get.
-#[derive(Clone, Copy)]
+#[derive(Clone, Copy, PartialEq, Eq)]
 pub enum Next {
     Program(usize, u8),
     Erase(usize, usize),

@@ -23,7 +23,7 @@ pub struct Ran {
 }
 
 // An image, the first bytes of a buffer; the number of blocks that calls are told; the record, and what the last call came to.
-// The size stands beside the buffer since there is no heap, and a bench is copied whole to go back to.
+// The size stands beside the buffer since there is no heap, and a bench is copied whole to go back to: the kit's ArrayVec isn't Copy.
 #[derive(Clone, Copy)]
 pub struct Bench {
     pub image: [u8; ROOM],
@@ -77,7 +77,7 @@ impl Ran {
     pub fn tell(self, what: &[u8]) {
         say(what);
         self.result();
-        if !matches!(self.answer, Answer::More) {
+        if self.answer != Answer::More {
             say(b"; block ");
             number(usize::from(self.board.rest.block));
             say(b", end ");
@@ -271,7 +271,7 @@ impl Bench {
     // An object, if it is held; whether it is.
     fn object(self, id: u8) -> bool {
         let message = [6, 0, 5, 1, id, 0];
-        if !matches!(self.ask(0, &message).answer, Answer::Done) {
+        if self.ask(0, &message).answer != Answer::Done {
             return false;
         }
         say(b" ");

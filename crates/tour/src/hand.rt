@@ -1,6 +1,6 @@
 // The store changed by hand, and images of other lengths.
 use crate::calls::byte;
-use crate::shown::{answered, judge, records, reply_kept, unmounted};
+use crate::shown::{answered, judge, reply_kept, unmounted};
 use board::Record;
 use frame::Host;
 use job::Outcome;
@@ -44,23 +44,22 @@ pub fn board(d: Bench, at: usize, bytes: &[u8]) -> Bench {
 
 // A call on an image of zeros: a format, a mount, or 3 bytes of a commit from host 4.
 #[derive(Clone, Copy)]
-enum Tried {
+pub enum Tried {
     Format,
     Mount,
     Request,
 }
 
-impl From<usize> for Tried {
-    fn from(which: usize) -> Tried {
+impl Tried {
+    // By the script's number, of which any past 1 is the request.
+    pub fn new(which: usize) -> Tried {
         match which {
             0 => Tried::Format,
             1 => Tried::Mount,
             _ => Tried::Request,
         }
     }
-}
 
-impl Tried {
     fn call(self, zeros: &[u8], blocks: u8, board: Record, reply: &mut [u8]) -> Outcome {
         match self {
             Tried::Format => store::format(zeros, blocks),
@@ -73,7 +72,7 @@ impl Tried {
         match self {
             Tried::Format | Tried::Mount => unmounted(new),
             Tried::Request => {
-                records(old, new);
+                judge(b", record", old == new);
                 reply_kept(reply);
                 say(b"\n");
             }
@@ -82,11 +81,10 @@ impl Tried {
 }
 
 // A call on an image of so many bytes 0, with so many blocks.
-pub fn zeros(d: Bench, size: usize, blocks: usize, which: usize, text: &[u8]) {
+pub fn zeros(d: Bench, size: usize, blocks: usize, tried: Tried, text: &[u8]) {
     let image = [0; 66048];
     let old = [0; 66048];
     let mut reply = [0xEE; 16];
-    let tried = Tried::from(which);
     let after = tried.call(
         flash::front(&image, size),
         byte(blocks),
@@ -97,8 +95,7 @@ pub fn zeros(d: Bench, size: usize, blocks: usize, which: usize, text: &[u8]) {
     answered(after.answer);
     judge(
         b"; image",
-        flash::front(&old, size),
-        flash::front(&image, size),
+        flash::front(&old, size) == flash::front(&image, size),
     );
     tried.left(d.board, after.board, reply);
 }
@@ -109,7 +106,7 @@ pub fn elsewhere(d: Bench, text: &[u8]) {
     let after = job::step(&mut image, d.blocks, d.board);
     say(text);
     answered(after.answer);
-    judge(b"; image", &image, &[0xFF; 768]);
-    records(d.board, after.board);
+    judge(b"; image", image == [0xFF; 768]);
+    judge(b", record", d.board == after.board);
     say(b"\n");
 }

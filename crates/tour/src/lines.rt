@@ -1,6 +1,7 @@
 // A line of the script, taken apart.
 ghost use Rattle.std.specs.Prelude.{◌≡◌, ◌==◌, ◌+◌, ◌<◌, [], length, take, drop, position, IfSome, MatchOption};
 
+use crate::hand::Tried;
 use arrayvec::ArrayVec;
 
 // A line that can't be read.
@@ -69,7 +70,7 @@ pub enum Call {
     Zeros {
         size: usize,
         blocks: usize,
-        which: usize,
+        tried: Tried,
     },
 }
 
@@ -77,46 +78,33 @@ impl Call {
     // A word goes by its first letter, and takes so many numbers.
     pub fn new(word: u8, numbers: &[usize]) -> Result<Call, Unread> {
         Ok(match (word, numbers) {
-            (b'a', [host]) => Call::Ask { host: *host },
-            (b'b', [at]) => Call::Board { at: *at },
-            (b'c', [host, most]) => Call::Cut {
-                host: *host,
-                most: *most,
-            },
-            (b'd', [at]) => Call::Double { at: *at },
+            (b'a', &[host]) => Call::Ask { host },
+            (b'b', &[at]) => Call::Board { at },
+            (b'c', &[host, most]) => Call::Cut { host, most },
+            (b'd', &[at]) => Call::Double { at },
             (b'e', []) => Call::Elsewhere,
-            (b'f', [most]) => Call::Format { most: *most },
+            (b'f', &[most]) => Call::Format { most },
             (b'g', []) => Call::Go,
             (b'h', []) => Call::Handed,
-            (b'i', [at]) => Call::Image { at: *at },
-            (b'j', [slot]) => Call::Judge { slot: *slot },
-            (b'k', [slot]) => Call::Keep { slot: *slot },
+            (b'i', &[at]) => Call::Image { at },
+            (b'j', &[slot]) => Call::Judge { slot },
+            (b'k', &[slot]) => Call::Keep { slot },
             (b'l', []) => Call::Log,
             (b'm', []) => Call::Mount,
-            (b'n', [size, blocks]) => Call::New {
-                size: *size,
-                blocks: *blocks,
-            },
+            (b'n', &[size, blocks]) => Call::New { size, blocks },
             (b'o', []) => Call::Objects,
-            (b'p', [host, id, count]) => Call::Put {
-                host: *host,
-                id: *id,
-                count: *count,
-            },
-            (b'q', [blocks]) => Call::Quantity { blocks: *blocks },
+            (b'p', &[host, id, count]) => Call::Put { host, id, count },
+            (b'q', &[blocks]) => Call::Quantity { blocks },
             (b'r', []) => Call::Read,
             (b's', []) => Call::Say,
             (b't', []) => Call::Try,
-            (b'u', [slot]) => Call::Use { slot: *slot },
-            (b'v', [from, to]) => Call::View {
-                from: *from,
-                to: *to,
-            },
-            (b'w', [room]) => Call::With { room: *room },
-            (b'z', [size, blocks, which]) => Call::Zeros {
-                size: *size,
-                blocks: *blocks,
-                which: *which,
+            (b'u', &[slot]) => Call::Use { slot },
+            (b'v', &[from, to]) => Call::View { from, to },
+            (b'w', &[room]) => Call::With { room },
+            (b'z', &[size, blocks, which]) => Call::Zeros {
+                size,
+                blocks,
+                tried: Tried::new(which),
             },
             _ => return Err(Unread),
         })

@@ -62,8 +62,8 @@ fn show(d: Bench, call: Call, message: &[u8], text: &[u8]) {
         Call::Zeros {
             size,
             blocks,
-            which,
-        } => hand::zeros(d, size, blocks, which, text),
+            tried,
+        } => hand::zeros(d, size, blocks, tried, text),
         Call::Elsewhere => hand::elsewhere(d, text),
         _ => (),
     }

@@ -1,7 +1,6 @@
 // What a call came to, and whether image, record and reply are as they were before it.
 use board::{Phase, Record};
 use frame::Host;
-use lent::RECORD_SIZE;
 use scene::{Bench, hex, number, say};
 use wire::Answer;
 
@@ -10,32 +9,24 @@ pub fn title(text: &[u8]) {
     say(b"\n");
 }
 
-pub fn judge(what: &[u8], old: &[u8], new: &[u8]) {
+// Whether something is as it was.
+pub fn judge(what: &[u8], same: bool) {
     say(what);
-    if old == new {
+    if same {
         say(b" same");
     } else {
         say(b" CHANGED");
     }
 }
 
-// By the records' bytes, so that every field counts.
-pub fn records(old: Record, new: Record) {
-    let mut one = [0; RECORD_SIZE];
-    let mut two = [0; RECORD_SIZE];
-    pack::encode(old, &mut one);
-    pack::encode(new, &mut two);
-    judge(b", record", &one, &two);
-}
-
 // Every reply is lent as bytes 0xEE.
 pub fn reply_kept(reply: [u8; 16]) {
-    judge(b", reply", &reply, &[0xEE; 16]);
+    judge(b", reply", reply == [0xEE; 16]);
 }
 
 pub fn compare(before: Bench, after: Bench) {
-    judge(b"; image", &before.image, &after.image);
-    records(before.board, after.board);
+    judge(b"; image", before.image == after.image);
+    judge(b", record", before.board == after.board);
     reply_kept(after.reply);
 }
 
@@ -47,7 +38,7 @@ pub fn judged(before: Bench, after: Bench) {
 
 // A refusal, or another call that is done without a step, is compared with what was before.
 pub fn came(before: Bench, after: Bench, text: &[u8]) {
-    if 0 < after.steps || matches!(after.answer, Answer::More) {
+    if 0 < after.steps || after.answer == Answer::More {
         return after.tell(text);
     }
     say(text);
@@ -61,7 +52,7 @@ pub fn answered(answer: Answer) {
 }
 
 pub fn unmounted(board: Record) {
-    if matches!(board.phase, Phase::Unmounted) {
+    if board.phase == Phase::Unmounted {
         say(b", record unmounted\n");
     } else {
         say(b", record MOUNTED\n");

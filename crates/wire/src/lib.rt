@@ -9,13 +9,13 @@ ghost use Rattle.wire.specs.Code.{overlay, page_into, value_place};
 use frame::{BODY_AT, Fault, Field, ID_MAX, KIND_AT, ObjectId, VALUE_MAX};
 
 // What a log request asks for.
-#[derive(Clone, Copy)]
+#[derive(Clone, Copy, PartialEq, Eq)]
 pub enum Page {
     Summary,
 }
 
 // What a host asks for. A put's value is the message past its id.
-#[derive(Clone, Copy)]
+#[derive(Clone, Copy, PartialEq, Eq)]
 pub enum Request {
     Put(ObjectId),
     Delete(ObjectId),
@@ -27,7 +27,7 @@ pub enum Request {
 }
 
 // Why a call is refused. A mount names the half that it can't take, and in it the first bad field.
-#[derive(Clone, Copy)]
+#[derive(Clone, Copy, PartialEq, Eq)]
 pub enum Refusal {
     Malformed,
     NoStore,
@@ -45,7 +45,7 @@ pub enum Refusal {
 }
 
 // What a call answers.
-#[derive(Clone, Copy)]
+#[derive(Clone, Copy, PartialEq, Eq)]
 pub enum Answer {
     Done,
     More,
