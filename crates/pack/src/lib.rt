@@ -18,7 +18,7 @@ use job::records::Numbers;
 pub use jobs::{begun, new_record};
 use wire::Answer;
 
-// The number of a phase, as unpack's phase_in reads it. Phases are board's, whose records know no bytes: so this is no impl of From.
+// The number of a phase in lent's layout (`phase_byte` in lent/Layout), as unpack's phase_in reads it and for the same reason no impl of From.
 fn phase_byte(phase: Phase) -> u8
     ensures { result ≡ phase_byte phase }
 {
