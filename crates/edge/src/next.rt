@@ -5,7 +5,7 @@ ghost use Rattle.edge.specs.Edge.{told, tells};
 use board::Next;
 use wire::Answer;
 
-// What no answer is: a byte to program, a stretch to erase.
+// C's numbers for what no answer is: a byte to program, a stretch to erase.
 const PROGRAM: u8 = 252;
 
 const ERASE: u8 = 253;

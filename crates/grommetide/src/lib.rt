@@ -1,4 +1,5 @@
-// The library for C: include/grommetide.h. The record crosses as bytes.
+// The library for C: include/grommetide.h. The record crosses as bytes, and the answers as C's numbers. C may lend a buffer of any length, and the
+// header promises 254 for one of another size than the record's: so each call tests it first.
 #![tactic(auto)]
 
 mod next;

@@ -101,6 +101,7 @@ pub fn try_next(len: usize, blocks: u8, board: &[u8]) -> Option<Found>
 
 // ---- the cursor counts it, unless it is the frame's last
 
+// Whether there is a byte more: then the cursor is at it.
 fn count(stage: Stage, board: &mut [u8]) -> bool
     requires { Ready board.old stage }
     ensures { (N : ℕ) (img : List ℕ) → Tried (stepped img (advance N stage img (record_in board.old))) result img board.old
@@ -128,6 +129,9 @@ fn count(stage: Stage, board: &mut [u8]) -> bool
         _ => false,
     }
 }
+
+// Both say no at once where nothing is found, with nothing written: `is_some_and` would lend the record to a closure, and what that wrote is
+// told to a proof by names of Rattle's own alone (tried).
 
 // Inner part of grommetide_made, which goes on by the record's numbers where this says no: a step that the caller made.
 pub fn try_made(len: usize, blocks: u8, board: &mut [u8]) -> bool
