@@ -6,6 +6,7 @@ ghost use Rattle.lent.specs.Layout.{record_in};
 ghost use Rattle.edge.specs.Edge.{Edge, edge_step, edge_made, run, edge_run, ReadsBack};
 
 use edge::WRONG_RECORD;
+use job::records;
 use lent::RECORD_SIZE;
 use wire::Answer;
 
@@ -56,7 +57,7 @@ pub extern "C" fn grommetide_run(
     if board.len() != RECORD_SIZE {
         return WRONG_RECORD;
     }
-    let mut places = [0; 256];
+    let mut places = records::no_places();
     unpack::read_places(board, &mut places);
     let mut unit = unpack::unit(board);
     let frame = unpack::append(board);
