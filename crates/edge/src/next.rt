@@ -5,9 +5,7 @@ ghost use Rattle.edge.specs.Edge.{told, tells};
 use board::Next;
 use wire::Answer;
 
-const DONE: u8 = 0;
-
-// What no answer is: a byte to program, a stretch to erase.
+// C's numbers for what no answer is: a byte to program, a stretch to erase.
 const PROGRAM: u8 = 252;
 
 const ERASE: u8 = 253;
@@ -52,7 +50,7 @@ pub fn tell(next: Next) -> Telling
             size,
             byte: ERASED,
         },
-        Next::Nothing => nothing(DONE),
+        Next::Nothing => nothing(wire::number(Answer::Done)),
         Next::Refused(why) => nothing(wire::number(Answer::Refused(why))),
     }
 }

@@ -5,15 +5,11 @@ ghost use Rattle.edge.specs.Code.{over, Went, DoesStep};
 
 use crate::WRONG_RECORD;
 use board::Phase;
+use frame::{BODY_AT, KIND_AT};
 use job::Moved;
 use job::records::Numbers;
 use lent::RECORD_SIZE;
 use wire::Answer;
-
-// Where a frame has its kind and its host.
-const KIND_AT: u8 = frame::KIND_AT as u8;
-
-const BODY_AT: u8 = frame::BODY_AT as u8;
 
 // The next frame to copy is loaded, or the block is sealed.
 fn load(image: &[u8], blocks: u8, n: Numbers, board: &mut [u8])

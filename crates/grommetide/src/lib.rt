@@ -1,4 +1,5 @@
-// The library for C: include/grommetide.h. The record crosses as bytes.
+// The library for C: include/grommetide.h. The record crosses as bytes, and the answers as C's numbers. C may lend a buffer of any length, and the
+// header promises 254 for one of another size than the record's: so each call tests it first.
 #![tactic(auto)]
 
 mod next;
@@ -12,7 +13,7 @@ ghost use Rattle.edge.specs.Edge.{Edge, edge_mount, edge_format, edge_request, R
 ghost use Rattle.edge.specs.Edge.{place, edge_read, broken, edge_fault};
 
 use edge::WRONG_RECORD;
-use frame::{BUFFER_LEN, Host};
+use frame::Host;
 use job::records;
 use lent::RECORD_SIZE;
 pub use next::grommetide_next;
@@ -95,10 +96,10 @@ pub extern "C" fn grommetide_request(
     }
     let phase = unpack::phase_of(board);
     let rest = unpack::rest_of(board);
-    let mut recorded = [0; 256];
+    let mut recorded = records::no_places();
     unpack::read_places(board, &mut recorded);
-    let mut places = [0; 256];
-    let mut frame = [0; BUFFER_LEN];
+    let mut places = records::no_places();
+    let mut frame = records::no_frame();
     let s = queue::request_core(
         image,
         blocks,

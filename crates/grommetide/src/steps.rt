@@ -7,6 +7,7 @@ ghost use Rattle.edge.specs.Edge.{Edge, edge_step, edge_made, run, edge_run, Rea
 
 use edge::WRONG_RECORD;
 use flash::Shape;
+use job::records;
 use lent::RECORD_SIZE;
 use wire::Answer;
 
@@ -58,7 +59,7 @@ pub extern "C" fn grommetide_run(
     if board.len() != RECORD_SIZE {
         return WRONG_RECORD;
     }
-    let mut places = [0; 256];
+    let mut places = records::no_places();
     unpack::read_places(board, &mut places);
     let mut unit = unpack::unit(board);
     let frame = unpack::append(board);

@@ -1,12 +1,13 @@
 -- The middle of a frame: what the bytes that the code reads and writes are.
 use mathlib.Core.Path.{◌≡◌, refl, sym, ap, subst, ◌∙◌}
-use mathlib.Core.List.{List, []}
+use mathlib.Core.List.{List, [], ◌∷◌}
 use mathlib.Core.Bool.{Bool, true, false, false≢true, ◌&&◌, cond}
-use Prim.Native.Nat.{ℕ, suc, ◌+◌, ◌/◌, ◌%◌, ◌<◌}
+use Prim.Native.Nat.{ℕ, zero, suc, ◌+◌, ◌/◌, ◌%◌, ◌<◌}
 use native.Mathlib.Omega.{arith}
 use lib.ListN.{length, length-set, get_or, set, drop}
 use lib.Seq.{drop-drop, get_or-drop}
 use borrow.Author.Tests.{eq-eqb, lt-ltb}
+use borrow.Rule.Slice.PartMut.{put_mid}
 use Rattle.std.specs.Prelude.{Option, Some, None, IfSome}
 use Rattle.flash.specs.Flash.{max_blocks, Step, program, program_at, size_in, within}
 use Rattle.flash.proofs.Cases.{on_test, and_both}
@@ -40,6 +41,26 @@ nothing o img b img' b' e f = record { made = λ t. absurd (false≢true t); lef
 
 pub done : (o : Out) (img b img' b' : List ℕ) → Made o b img' b' → Tried o true img b img' b'
 done o img b img' b' m = record { made = λ _. m; left = λ t. absurd (false≢true (sym t)) }
+
+-- two bytes laid in the place of two
+pub two_laid : (b : List ℕ) (at x y : ℕ) → suc at < length b → put_mid at 2 b (x ∷ (y ∷ [])) ≡ set (set b at x) (suc at) y
+two_laid [] at x y h = absurd (omega arith)
+two_laid (u ∷ []) zero x y h = absurd (omega arith)
+two_laid (u ∷ (v ∷ t)) zero x y h = refl
+two_laid (u ∷ t) (suc n) x y h = ap (λ (l : List ℕ). u ∷ l) (two_laid t n x y (omega arith))
+
+-- a phase's number, where that is of a stage
+busy_low : (n : ℕ) (s : Stage) → phase_in n ≡ Busy s → n < 9
+busy_low zero s e = omega arith
+busy_low (suc zero) s e = omega arith
+busy_low (suc (suc zero)) s e = omega arith
+busy_low (suc (suc (suc zero))) s e = omega arith
+busy_low (suc (suc (suc (suc zero)))) s e = omega arith
+busy_low (suc (suc (suc (suc (suc zero))))) s e = omega arith
+busy_low (suc (suc (suc (suc (suc (suc zero)))))) s e = omega arith
+busy_low (suc (suc (suc (suc (suc (suc (suc zero))))))) s e = omega arith
+busy_low (suc (suc (suc (suc (suc (suc (suc (suc zero)))))))) s e = omega arith
+busy_low (suc (suc (suc (suc (suc (suc (suc (suc (suc n))))))))) s e = let o : ◌≡◌ {A = ℕ} 0 1 = cc in absurd (omega arith)
 
 -- a frame that has a byte more
 copy-on : (N : ℕ) (r : Record) (after : List ℕ) → suc r.cursor.off < r.cursor.size
@@ -81,9 +102,9 @@ module _ (b : List ℕ) where
   unfolding record_in
   append_is = in_plan append_at_of
 
-  phase_is : (p : ℕ) → get_or b 0 0 ≡ p → (record_in b).phase ≡ phase_in p
+  phase_low : (s : Stage) → (record_in b).phase ≡ Busy s → get_or b 0 0 < 9
   unfolding record_in
-  phase_is p e = ap phase_in e
+  phase_low s e = busy_low (get_or b 0 0) s e
 
   last_is : (n : ℕ) → n ≡ suc (word_at b last_at) → n ≡ suc (record_in b).rest.last
   unfolding record_in
@@ -102,23 +123,23 @@ module _ (b : List ℕ) where
   end_is = refl
 
   -- the byte of either frame
-  pub copy_is : (off at block v : ℕ) → get_or b 0 0 ≡ 4 → off ≡ get_or b (cursor_at + off_at) 0 → at ≡ word_at b (cursor_at + made_at)
+  pub copy_is : (off at block v : ℕ) → (record_in b).phase ≡ Busy Copy → off ≡ get_or b (cursor_at + off_at) 0 → at ≡ word_at b (cursor_at + made_at)
       → block ≡ get_or b (plan_at + target_at) 0 → v ≡ get_or (record_in b).unit off 0 → Aims b (record { stage = Copy; block = block; at = at; byte = v })
   copy_is off at block v p eo ea ek ev =
       let fo : off ≡ (record_in b).cursor.off = eo ∙ sym off_is in
       record {
-        phase = rw p (omega arith);
-        busy = phase_is 4 p;
+        phase = phase_low Copy p;
+        busy = p;
         acts = ap (program block at) ev ∙ (λ j. program ((ek ∙ sym target_is) j) ((ea ∙ sym at_is) j) (get_or (record_in b).unit (fo j) 0));
       }
 
-  pub append_at : (index at block v : ℕ) → get_or b 0 0 ≡ 7 → index ≡ get_or b cursor_at 0 → at ≡ word_at b end_at + index → block ≡ get_or b block_at 0
+  pub append_at : (index at block v : ℕ) → (record_in b).phase ≡ Busy Append → index ≡ get_or b cursor_at 0 → at ≡ word_at b end_at + index → block ≡ get_or b block_at 0
       → v ≡ get_or (record_in b).frame index 0 → Aims b (record { stage = Append; block = block; at = at; byte = v })
   append_at index at block v p ei ea ek ev =
       let fi : index ≡ (record_in b).cursor.index = ei ∙ sym index_is in
       record {
-        phase = rw p (omega arith);
-        busy = phase_is 7 p;
+        phase = phase_low Append p;
+        busy = p;
         acts = ap (program block at) ev
             ∙ (λ j. program ((ek ∙ sym block_is) j) ((ea ∙ (λ k. sym end_is k + fi k)) j) (get_or (record_in b).frame (fi j) 0));
       }

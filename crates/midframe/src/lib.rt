@@ -2,20 +2,17 @@
 #![tactic(auto)]
 
 ghost use Rattle.std.specs.Prelude.{◌≡◌, true, List, ℕ, length, IfSome};
-ghost use Rattle.board.specs.declared.Stage.TheVariants.{Copy, Append};
 ghost use Rattle.board.specs.Step.{advance, stepped, step_on};
 ghost use Rattle.board.specs.Drive.{made_on};
 ghost use Rattle.lent.specs.Layout.{record_in};
 ghost use Rattle.midframe.specs.Code.{Stands, Aims, Lies, Ready, Finds, Tried};
 
-use board::Stage;
+use board::{Phase, Stage};
 use flash::{Shape, byte_at};
 use lent::{BLOCK_AT, BLOCKS_AT, CURSOR_AT, END_AT, LAST_AT, PLAN_AT, RECORD_SIZE};
 
-// The numbers of the two stages that program frames.
-const COPY: u8 = 4;
-
-const APPEND: u8 = 7;
+// Where the cursor counts the offset to program at.
+const AT: usize = CURSOR_AT + lent::MADE_AT;
 
 // A byte of a frame to program, in which stage, and its offset in its block.
 #[derive(Clone, Copy)]
@@ -50,22 +47,22 @@ fn stands(board: &[u8], shape: Shape) -> bool
 fn spot(board: &[u8]) -> Option<Aim>
     ensures { IfSome result (Aims board.now) }
 {
-    match byte_at(board, 0) {
-        COPY => {
+    match unpack::phase_of(board) {
+        Phase::Busy(Stage::Copy) => {
             let off = byte_at(board, CURSOR_AT + lent::OFF_AT);
             Some(Aim {
                 stage: Stage::Copy,
                 block: byte_at(board, PLAN_AT + lent::TARGET_AT),
-                at: unpack::word_in(board, CURSOR_AT + lent::MADE_AT) as usize,
-                byte: unpack::unit_byte(board, off),
+                at: unpack::word_in(board, AT) as usize,
+                byte: unpack::unit_byte(board, off as usize),
             })
         }
-        APPEND => {
-            let index = byte_at(board, CURSOR_AT);
+        Phase::Busy(Stage::Append) => {
+            let index = byte_at(board, CURSOR_AT) as usize;
             Some(Aim {
                 stage: Stage::Append,
                 block: byte_at(board, BLOCK_AT),
-                at: unpack::word_in(board, END_AT) as usize + index as usize,
+                at: unpack::word_in(board, END_AT) as usize + index,
                 byte: unpack::append_byte(board, index),
             })
         }
@@ -98,47 +95,37 @@ pub fn try_next(shape: Shape, board: &[u8]) -> Option<Found>
 
 // ---- the cursor counts it, unless it is the frame's last
 
-fn count_copied(board: &mut [u8]) -> bool
-    requires { Ready board.old Copy }
-    ensures { (N : ℕ) (img : List ℕ) → Tried (stepped img (advance N Copy img (record_in board.old))) result img board.old
-        img board.new }
-{
-    let off = byte_at(board, CURSOR_AT + lent::OFF_AT);
-    if byte_at(board, CURSOR_AT + lent::COPY_AT) as usize <= off as usize + 1 {
-        return false;
-    }
-    let next = unpack::word_in(board, CURSOR_AT + lent::MADE_AT) + 1;
-    let [low, high] = next.to_le_bytes();
-    board[CURSOR_AT + lent::MADE_AT] = low;
-    board[CURSOR_AT + lent::MADE_AT + 1] = high;
-    board[CURSOR_AT + lent::OFF_AT] = off + 1;
-    true
-}
-
-fn count_appended(board: &mut [u8]) -> bool
-    requires { Ready board.old Append }
-    ensures { (N : ℕ) (img : List ℕ) → Tried (stepped img (advance N Append img (record_in board.old))) result img board.old
-        img board.new }
-{
-    let index = byte_at(board, CURSOR_AT);
-    if byte_at(board, PLAN_AT + lent::APPEND_AT) as usize <= index as usize + 1 {
-        return false;
-    }
-    board[CURSOR_AT] = index + 1;
-    true
-}
-
+// Whether there is a byte more: then the cursor is at it.
 fn count(stage: Stage, board: &mut [u8]) -> bool
     requires { Ready board.old stage }
     ensures { (N : ℕ) (img : List ℕ) → Tried (stepped img (advance N stage img (record_in board.old))) result img board.old
         img board.new }
 {
     match stage {
-        Stage::Copy => count_copied(board),
-        Stage::Append => count_appended(board),
+        Stage::Copy => {
+            let off = byte_at(board, CURSOR_AT + lent::OFF_AT);
+            let on = off as usize + 1 < byte_at(board, CURSOR_AT + lent::COPY_AT) as usize;
+            if on {
+                let next = unpack::word_in(board, AT) + 1;
+                board[AT..AT + 2].copy_from_slice(&next.to_le_bytes());
+                board[CURSOR_AT + lent::OFF_AT] = off + 1;
+            }
+            on
+        }
+        Stage::Append => {
+            let index = byte_at(board, CURSOR_AT);
+            let on = index as usize + 1 < byte_at(board, PLAN_AT + lent::APPEND_AT) as usize;
+            if on {
+                board[CURSOR_AT] = index + 1;
+            }
+            on
+        }
         _ => false,
     }
 }
+
+// Both say no at once where nothing is found, with nothing written: `is_some_and` would lend the record to a closure, and what that wrote is
+// told to a proof by names of Rattle's own alone (tried).
 
 // Inner part of grommetide_made, which goes on by the record's numbers where this says no: a step that the caller made.
 pub fn try_made(shape: Shape, board: &mut [u8]) -> bool

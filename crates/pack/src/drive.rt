@@ -16,7 +16,8 @@ pub(crate) fn lay_numbers(n: Numbers, bytes: &mut [u8])
     lay_at(bytes, lent::CURSOR_AT, &cursor_bytes(n.cursor));
 }
 
-// The record that a step leaves, in a buffer of its size; any other buffer stays.
+// The record that a step leaves, in a buffer of its size; any other buffer stays, which is promised of each length that C lends: so the test
+// here, in write_loaded and in encode_parts, and no array of that size.
 pub fn write_step(s: Stepped, bytes: &mut [u8])
     ensures { Holds (left_in s bytes.old) bytes.old bytes.new }
 {

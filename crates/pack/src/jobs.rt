@@ -1,4 +1,4 @@
-// The record of a job that began: no frame is copied yet.
+// The record of a job that began: no frame is copied yet. The answers are C's numbers.
 ghost use Rattle.std.specs.Prelude.{◌≡◌};
 ghost use Rattle.lent.specs.Layout.{record_into};
 ghost use Rattle.wire.specs.Answer.{edge_number};

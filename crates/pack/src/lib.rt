@@ -18,7 +18,7 @@ use job::records::Numbers;
 pub use jobs::{begun, new_record};
 use wire::Answer;
 
-// The number of a phase, as unpack's phase_in reads it. Phases are board's, whose records know no bytes: so this is no impl of From.
+// The number of a phase in lent's layout (`phase_byte` in lent/Layout), as unpack's phase_in reads it and for the same reason no impl of From.
 fn phase_byte(phase: Phase) -> u8
     ensures { result ≡ phase_byte phase }
 {
@@ -90,7 +90,8 @@ fn lay_at(bytes: &mut [u8], at: usize, source: &[u8])
     }
 }
 
-// Lays words over the bytes from a place on. A step of C's may write a record's places, so this loop tests nothing but its end.
+// Lays words over the bytes from a place on. A step of C's may write a record's places, so this loop tests nothing but its end: two
+// stores, where a copy tests two lengths for each word.
 fn lay_words(bytes: &mut [u8], at: usize, words: &[u16])
     requires { at + 2 * length words.now ≤ length bytes.old }
     ensures { bytes.new ≡ laid_at at (word_bytes words.now) bytes.old }

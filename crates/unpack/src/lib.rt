@@ -14,7 +14,7 @@ use flash::{MAX_BLOCKS, byte_at, front, rest};
 pub use head::{phase_of, place_of, rest_of};
 use job::records;
 
-// The word at a place.
+// The word at a place. It isn't wire's word_at, which counts by u8: a message is short, and a record's words lie further on.
 pub fn word_in(bytes: &[u8], at: usize) -> u16
     ensures { result ≡ word_at bytes.now at }
 {
@@ -22,7 +22,7 @@ pub fn word_in(bytes: &[u8], at: usize) -> u16
     u16::from_le_bytes([byte_at(bytes, 0), byte_at(bytes, 1)])
 }
 
-// The number that four bytes are.
+// The number that four bytes are. The list stands here since any of them may lie past the end, and `from_le_bytes` takes four that are there.
 fn number_in(bytes: &[u8]) -> u32
     ensures { result ≡ number_in bytes.now }
 {
@@ -56,7 +56,8 @@ fn bytes_in<const N: usize>(bytes: &[u8]) -> [u8; N]
     array
 }
 
-// Phases are board's, whose records know no bytes: so this is no impl of From, nor is pack's phase_byte.
+// The phase of a number. The numbers are lent's layout (`phase_in` in lent/Layout), a crate above board's, whose phases these are: so no impl
+// of From can stand with either type, neither of this nor of pack's phase_byte.
 fn phase_in(number: u8) -> Phase
     ensures { result ≡ phase_in number }
 {

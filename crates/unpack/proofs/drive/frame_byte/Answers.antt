@@ -7,4 +7,4 @@ use Rattle.unpack.proofs.drive.frame_byte.Goals as goal
 
 pub returns : goal.returns
 returns c =
-    c.byte_at.ensures ∙ rw (c.from.ensures, c.front.ensures, c.rest.ensures) (front_byte buffer_len c.args.i (drop c.args.at c.args.bytes.now))
+    c.byte_at.ensures ∙ rw (c.front.ensures, c.rest.ensures) (front_byte buffer_len c.args.i (drop c.args.at c.args.bytes.now))

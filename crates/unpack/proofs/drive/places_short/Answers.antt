@@ -8,7 +8,7 @@ use Rattle.unpack.proofs.drive.places_short.Goals as goal
 
 pub loop-i-init : goal.loop-i-init
 unfolding words_in
-loop-i-init c = (refl, c.requires)
+loop-i-init c = (refl, c.told-places)
 
 pub loop-i-preserved : goal.loop-i-preserved
 loop-i-preserved c = (
