@@ -47,12 +47,26 @@ pub fn program(image: &mut [u8], at: usize, byte: u8)
     }
 }
 
+// Where a block starts, or the image's end if it isn't there. By a division: a product that saturates would call for 128 bits, which
+// WebAssembly has no instruction for.
+fn start_of(size: usize, number: usize, end: usize) -> usize
+    ensures { result ≡ min end (number * size) }
+{
+    if size == 0 {
+        0
+    } else if number <= end / size {
+        number * size
+    } else {
+        end
+    }
+}
+
 // Where a block starts and where it ends, as far as the image goes.
 fn bounds(size: usize, number: usize, end: usize) -> Range<usize>
     ensures start { result.start ≡ min end (number * size) }
     ensures end { result.end ≡ result.start + min size (end - result.start) }
 {
-    let start = number.saturating_mul(size).min(end);
+    let start = start_of(size, number, end);
     start..start + size.min(end - start)
 }
 
