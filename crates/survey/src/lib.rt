@@ -26,7 +26,7 @@ pub struct Walk {
     pub torn: usize,
 }
 
-#[derive(Clone, Copy)]
+#[derive(Clone, Copy, PartialEq, Eq)]
 pub enum BlockKind {
     Blank,
     InProgress,
