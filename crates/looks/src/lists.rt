@@ -5,7 +5,8 @@ ghost use Rattle.looks.specs.Seen.{none_of, one_more, erases_of, others_in};
 
 use flash::MAX_BLOCKS;
 
-// An array that is filled from its front, and how much of it is. A record's job, which C lays out, has both.
+// An array that is filled from its front, and how much of it is, as a record's job has them.
+// The kit's ArrayVec isn't Copy, as what goes into a record is, and the library rests on no crate of the kit.
 #[derive(Clone, Copy)]
 pub struct Counted<T, const N: usize> {
     pub items: [T; N],

@@ -18,7 +18,7 @@ pub struct Newest {
     pub number: u8,
     pub time: u32,
     pub end: u16,
-    // the length of a torn frame after its whole ones, 0 for none
+    // the length of a torn frame after its whole ones, 0 for none: no frame is so short, and sums go by it
     pub torn: u16,
     // something is pending
     pub pends: bool,
@@ -29,7 +29,8 @@ pub struct Newest {
 
 #[derive(Clone, Copy)]
 pub struct Seen {
-    // each block's creation time, 0 if it isn't valid, and whether it is blank: two arrays, since the one is searched and the other passed on, each alone
+    // each block's creation time, and whether it is blank: two arrays, since the one is searched and the other passed on, each alone.
+    // A time is 0 if the block isn't valid: no valid one has that, and Options would take twice as much of the stack
     pub times: [u32; MAX_BLOCKS],
     pub blanks: [bool; MAX_BLOCKS],
     // why no block is taken, if none is valid
@@ -42,7 +43,7 @@ pub struct Seen {
 fn is_blank(kind: BlockKind) -> bool
     ensures { result ≡ is_blank_kind kind }
 {
-    matches!(kind, BlockKind::Blank)
+    kind == BlockKind::Blank
 }
 
 // A foreign block is named, with its fault.

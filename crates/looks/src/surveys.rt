@@ -8,7 +8,7 @@ use wire::Refusal;
 pub fn is_valid(kind: BlockKind) -> bool
     ensures { result ≡ is_valid kind }
 {
-    matches!(kind, BlockKind::Valid)
+    kind == BlockKind::Valid
 }
 
 // All hosts' pending bytes.
@@ -26,6 +26,7 @@ pub fn next_time(moves: bool, time: u32) -> Result<u32, Refusal>
     if moves {
         time.checked_add(1).ok_or(Refusal::Worn)
     } else {
+        // as a job has it where none is made
         Ok(0)
     }
 }

@@ -22,17 +22,22 @@ use Rattle.board.specs.Mount.{reset_bytes, closes_for, appends_for, stands_for}
 use Rattle.looks.specs.Seen.{some_of, kept_of}
 use Rattle.looks.proofs.Transfers.{cut_not}
 use Rattle.store.specs.declared.mends.Mend.{Mend}
+use Rattle.store.specs.declared.mends.Mend.TheVariants.{Transfer, Append}
 use Rattle.store.specs.Mends.{closes_of, torn_writes, mend_in}
 
 -- ---- by the kind of upkeep
 
-abbrev end_for : Upkeep → Journal → ℕ
+abbrev pub end_for : Upkeep → Journal → ℕ
 end_for rests x = end_of x
 end_for mends x = closed_end x
 end_for moves x = end_of x
 
+abbrev mend_of : Bool → ℕ → List Write → ℕ → Mend
+mend_of true e ws n = Transfer
+mend_of false e ws n = Append e (closes_of ws) n
+
 abbrev pub mend_for : Upkeep → List ℕ → Journal → Mend
-mend_for u b x = record { moves = transfers u; end = end_for u x; closes = closes_of (closes_for u b x); size = length (appends_for u x) }
+mend_for u b x = mend_of (transfers u) (end_for u x) (closes_for u b x) (length (appends_for u x))
 
 pub stands_is : (u : Upkeep) (N l k n : ℕ) (x : Journal) → rest N l k (end_for u x) n ≡ stands_for u (rest N l k (end_of x) n) x
 stands_is rests N l k n x = refl
@@ -61,9 +66,6 @@ laid-is mends x = reset-laid x (replay_of x).pending
 laid-is moves x = none-laid x
 
 -- ---- by what was kept
-
-abbrev mend_of : Bool → ℕ → List Write → ℕ → Mend
-mend_of m e ws n = record { moves = m; end = e; closes = closes_of ws; size = n }
 
 module _ {b : List ℕ} (x : Store) (h : Contents b x.journal) where
   abbrev j : Journal

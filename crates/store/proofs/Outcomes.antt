@@ -18,15 +18,15 @@ use Rattle.wire.specs.declared.Answer.TheVariants.{Done, More, Refused}
 use Rattle.wire.specs.declared.Refusal.{Refusal}
 use Rattle.wire.specs.declared.Refusal.TheVariants as refusal
 use Rattle.board.specs.declared.Stage.{Stage}
-use Rattle.board.specs.declared.Stage.TheVariants.{Wipe, Open, Append, Close}
+use Rattle.board.specs.declared.Stage.TheVariants as stage
 use Rattle.board.specs.declared.Phase.TheVariants.{Busy}
 use Rattle.board.specs.declared.Job.{Job}
 use Rattle.board.specs.declared.Cursor.{Cursor}
 use Rattle.board.specs.declared.Rest.{Rest}
 use Rattle.board.specs.Record.{allowed, no_places, zero_each, no_closes, no_frame, buffer, unmounted, rest, starting, busy_with, Out, refuse}
 use Rattle.board.specs.Step.{first, begin}
-use Rattle.board.specs.Mount.{next_block, new_time, Found, all_found, Store, stores, equal_times, newest, tied, wipe_list, Upkeep, upkeep, transfers, none_valid, lowest_tied}
-use Rattle.board.specs.Mount.{time_of, appends_for, tied_times, mount_at, mount_stores, mount_on, numbers_but, order_for, format_order, format_on}
+use Rattle.board.specs.Mount.{next_block, new_time, Found, all_found, Store, stores, equal_times, newest, tied, wipe_list, Upkeep, rests, mends, moves, upkeep, transfers, none_valid, lowest_tied}
+use Rattle.board.specs.Mount.{time_of, block_in, end_of, closes_for, close_array, appends_for, tied_times, mount_at, mount_stores, mount_on, numbers_but, order_for, format_order, format_on}
 use Rattle.board.proofs.Found.{Among, newest-among, among_holds}
 use Rattle.board.proofs.Outcomes.{mount-stores, format-begins}
 use Rattle.job.specs.declared.records.Numbers.{Numbers}
@@ -36,14 +36,15 @@ use Rattle.job.proofs.Entering.{wipe_leaves}
 use Rattle.looks.specs.declared.looks.Newest.{Newest}
 use Rattle.looks.specs.declared.looks.Seen.{Seen}
 use Rattle.store.specs.declared.mends.Mend.{Mend}
+use Rattle.store.specs.declared.mends.Mend.TheVariants.{Transfer, Append}
 use Rattle.store.specs.Calls.{ends, places_after, Gives, or_refused, refused}
-use Rattle.store.specs.Mends.{mend_in, reset_in}
+use Rattle.store.specs.Mends.{Closes, mend_in, reset_in}
 use Rattle.looks.specs.Surveys.{next_time}
 use Rattle.looks.specs.Seen.{Erases, erases_of, others_in, kept_of, newest_in, tie_in, store_places, places_for, Sees}
 use Rattle.store.specs.Mounts.{mount_plan, mount_in, mount_taken, unless_tied, mount_kept, mount_seen, Comes, last_erased, order_by}
 use Rattle.looks.proofs.Looked.{state_at, Held, NewestHeld, newest_held}
 use Rattle.store.proofs.Ordering.{but-none}
-use Rattle.store.proofs.Mending.{stands_is, laid-is, mend_is}
+use Rattle.store.proofs.Mending.{end_for, mend_for, stands_is, laid-is, mend_is}
 
 -- a refusal, which leaves no places and no frame
 pub refusal_given : {img p f : List ℕ} {s : Stepped} {o : Out} (why : Refusal) → o ≡ refuse why img unmounted [] → s ≡ refused why
@@ -78,12 +79,12 @@ when_if P false a b = b
 when_begun : (P : Stepped → Type 0) (n : Numbers) → ((g : Stage) → P (going g (first n.cursor) n)) → P (over n.rest) → P (go_wipe n)
 unfolding go_wipe go_open go_close go_append
 when_begun P n g o =
-    when_if P (ltb 0 n.job.wipes) (g Wipe) (when_if P n.job.moves (g Open) (when_if P (ltb 0 n.job.closes) (g Close)
-    (when_if P (ltb 0 n.job.size) (g Append) o)))
+    when_if P (ltb 0 n.job.wipes) (g stage.Wipe) (when_if P n.job.moves (g stage.Open) (when_if P (ltb 0 n.job.closes) (g stage.Close)
+    (when_if P (ltb 0 n.job.size) (g stage.Append) o)))
 
 beginning : (img p : List ℕ) {f : List ℕ} (z : Rest) (j : Job) (c : Cursor) → reset_in j ≡ f → Came p f (begins z j c) (begin img [] (busy_with z p j c f))
 beginning img p {f} z j c e =
-    let n : Numbers = record { phase = Busy Wipe; rest = z; job = j; cursor = c } in
+    let n : Numbers = record { phase = Busy stage.Wipe; rest = z; job = j; cursor = c } in
     let l = wipe_leaves p no_frame f n in
     record {
       answers = l.answers;
@@ -121,6 +122,32 @@ bare-gives s o x =
 
 -- ---- mount
 
+abbrev plan_for : ℕ → Erases → Upkeep → List ℕ → Store → Job
+plan_for N es u b x =
+    record {
+      wipe = es.items;
+      wipes = es.count;
+      moves = transfers u;
+      drops = true;
+      target = next_block N x.number;
+      time = new_time (transfers u) (time_of x);
+      since = zero_each;
+      size = length (appends_for u x.journal);
+      edition = edition_number x.journal.edition;
+      closes = length (closes_for u b x.journal);
+      close = close_array (closes_for u b x.journal);
+    }
+
+-- by the kind of upkeep
+mount-by : (N l : ℕ) (es : Erases) (u : Upkeep) (b : List ℕ) (x : Store) (same : Bool)
+    → mount_in N l (kept_of x same) es (mend_for u b x.journal)
+    ≡ cond (transfers u && eqb (time_of x) last_time) (Err refusal.Worn)
+    (Ok (begins (rest N l x.number (end_for u x.journal) (edition_number x.journal.edition)) (plan_for N es u b x) (starting 0 (end_of x.journal))))
+unfolding mount_in
+mount-by N l es rests b x same = refl
+mount-by N l es mends b x same = refl
+mount-by N l es moves b x same = refl
+
 module _ (N : ℕ) (img p : List ℕ) where
   -- the frame to append to the newest of some blocks
   abbrev frame_for : List Store → List ℕ
@@ -130,11 +157,11 @@ module _ (N : ℕ) (img p : List ℕ) where
   mount-with : (xs : List Found) (y : Store) (ys : List Store) → Held N img (newest y ys)
       → Came (store_places (newest y ys)) (frame_for (y ∷ ys)) (or_refused (mount_taken N img (kept_of (newest y ys) (tied (time_of (newest y ys)) (y ∷ ys))) (wipe_list (newest y ys).number xs)))
       (mount_at N img xs (newest y ys))
-  unfolding mount_in mount_at
+  unfolding mount_at
   mount-with xs y ys h =
       let x : Store = newest y ys in
       let u : Upkeep = upkeep (size_of N img) x in
-      rw (mend_is x h.holds (tied (time_of x) (y ∷ ys)), h.long)
+      rw (mend_is x h.holds (tied (time_of x) (y ∷ ys)), h.long, mount-by N (length img - 1) (erases_of (wipe_list x.number xs)) u (block_in N img x) x (tied (time_of x) (y ∷ ys)))
       (came_if _ _ (transfers u && eqb (time_of x) last_time) _ _ (refusing img _ _ refusal.Worn)
       (rw (stands_is u N (length img - 1) x.number (edition_number x.journal.edition) x.journal)
       (beginning img (store_places x) _ _ _ (laid-is u x.journal))))
@@ -186,21 +213,24 @@ begun_of : (b : Bool) (n t : ℕ) (f : ℕ → Stepped) → cond b (Err refusal.
 begun_of true n t f h = absurd (cc)
 begun_of false n t f h = let e : n ≡ t = cc in ap (λ (k : ℕ). Ok (f k)) (sym e)
 
--- a block is made, unless there is no later time
-module _ (N l : ℕ) (w : Newest) (es : Erases) (m : Mend) where
-  abbrev plan_at : ℕ → Job
-  plan_at t = record (mount_plan N w es m) { time = t }
-
+-- a block is made, unless there is no later time; or the one that is taken is mended
+module _ (N l : ℕ) (w : Newest) (es : Erases) where
   abbrev begun : ℕ → Stepped
-  begun t = begins (rest N l w.number m.end (edition_number w.edition)) (plan_at t) (starting 0 w.end)
+  begun t =
+      begins (rest N l w.number w.end (edition_number w.edition)) (record (mount_plan N w es Transfer) { time = t }) (starting 0 w.end)
 
-  pub mount_worn : (e : Refusal) → next_time m.moves w.time ≡ Err e → Err e ≡ mount_in N l w es m
+  pub mount_worn : (e : Refusal) → next_time true w.time ≡ Err e → Err e ≡ mount_in N l w es Transfer
   unfolding mount_in
-  mount_worn e h = worn_of (m.moves && eqb w.time last_time) (new_time m.moves w.time) (begun (new_time m.moves w.time)) e h
+  mount_worn e h = worn_of (eqb w.time last_time) (new_time true w.time) (begun (new_time true w.time)) e h
 
-  pub mount_begun : (t : ℕ) → next_time m.moves w.time ≡ Ok t → Ok (begun t) ≡ mount_in N l w es m
+  pub mount_begun : (t : ℕ) → next_time true w.time ≡ Ok t → Ok (begun t) ≡ mount_in N l w es Transfer
   unfolding mount_in
-  mount_begun t h = begun_of (m.moves && eqb w.time last_time) (new_time m.moves w.time) t begun h
+  mount_begun t h = begun_of (eqb w.time last_time) (new_time true w.time) t begun h
+
+  pub mount_mended : (e : ℕ) (c : Closes) (n : ℕ)
+      → Ok (begins (rest N l w.number e (edition_number w.edition)) (mount_plan N w es (Append e c n)) (starting 0 w.end)) ≡ mount_in N l w es (Append e c n)
+  unfolding mount_in
+  mount_mended e c n = refl
 
 -- ---- format
 

@@ -10,6 +10,7 @@ use Rattle.looks.specs.declared.lists.Counted.{Counted}
 use Rattle.looks.specs.declared.looks.Newest.{Newest}
 use Rattle.looks.specs.Seen.{one_more}
 use Rattle.store.specs.declared.mends.Mend.{Mend}
+use Rattle.store.specs.declared.mends.Mend.TheVariants.{Transfer, Append}
 
 -- ---- the bytes that close a torn frame
 
@@ -40,8 +41,24 @@ due_len w = cond w.pends (reset_len w.edition) 0
 -- what is done with the block, whose bytes are b
 unfoldable pub mend_in : List ℕ → Newest → Mend
 mend_in b w =
-    cond (moves_in (length b) w) (record { moves = true; end = w.end; closes = closes_of []; size = 0 })
-    (record { moves = false; end = w.end + w.torn; closes = closes_of (torn_writes b w.end w.torn); size = due_len w })
+    cond (moves_in (length b) w) Transfer (Append (w.end + w.torn) (closes_of (torn_writes b w.end w.torn)) (due_len w))
+
+-- what it comes to in a record: a block is made, where the record stands, what is closed, and the length of the reset
+abbrev pub is_transfer : Mend → Bool
+is_transfer Transfer = true
+is_transfer (Append e l n) = false
+
+abbrev pub stands_at : Newest → Mend → ℕ
+stands_at w Transfer = w.end
+stands_at w (Append e l n) = e
+
+abbrev pub closes_in : Mend → Closes
+closes_in Transfer = closes_of []
+closes_in (Append e l n) = l
+
+abbrev pub size_in : Mend → ℕ
+size_in Transfer = 0
+size_in (Append e l n) = n
 
 -- the frame that a mount's job appends
 abbrev pub reset_in : Job → List ℕ

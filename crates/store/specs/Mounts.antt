@@ -14,7 +14,7 @@ use Rattle.looks.specs.declared.looks.Newest.{Newest}
 use Rattle.looks.specs.declared.looks.Seen.{Seen}
 use Rattle.store.specs.declared.mends.Mend.{Mend}
 use Rattle.store.specs.Calls.{places_after, Gives, or_refused}
-use Rattle.store.specs.Mends.{mend_in, reset_in}
+use Rattle.store.specs.Mends.{mend_in, is_transfer, stands_at, closes_in, size_in, reset_in}
 use Rattle.looks.specs.Seen.{Erases, erases_of, others_in}
 
 -- ---- mount
@@ -24,22 +24,22 @@ mount_plan N w l m =
     record {
       wipe = l.items;
       wipes = l.count;
-      moves = m.moves;
+      moves = is_transfer m;
       drops = true;
       target = next_block N w.number;
-      time = new_time m.moves w.time;
+      time = new_time (is_transfer m) w.time;
       since = zero_each;
-      size = m.size;
+      size = size_in m;
       edition = edition_number w.edition;
-      closes = m.closes.count;
-      close = m.closes.items;
+      closes = (closes_in m).count;
+      close = (closes_in m).items;
     }
 
 -- the block that is taken, the blocks to erase, and what is done with the one
 unfoldable pub mount_in : ℕ → ℕ → Newest → Erases → Mend → Result Stepped Refusal
 mount_in N l w es m =
-    cond (m.moves && eqb w.time last_time) (Err refusal.Worn)
-    (Ok (begins (rest N l w.number m.end (edition_number w.edition)) (mount_plan N w es m) (starting 0 w.end)))
+    cond (is_transfer m && eqb w.time last_time) (Err refusal.Worn)
+    (Ok (begins (rest N l w.number (stands_at w m) (edition_number w.edition)) (mount_plan N w es m) (starting 0 w.end)))
 
 -- on an image
 abbrev pub mount_taken : ℕ → List ℕ → Newest → List ℕ → Result Stepped Refusal

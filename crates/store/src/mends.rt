@@ -15,14 +15,11 @@ use looks::lists::Counted;
 pub type Closes = Counted<u16, 4>;
 
 #[derive(Clone, Copy)]
-pub struct Mend {
+pub enum Mend {
     // a block is made in place of all else
-    pub moves: bool,
-    // where the record stands: past a frame that is closed
-    pub end: u16,
-    pub closes: Closes,
-    // the length of the reset, 0 for none
-    pub size: u8,
+    Transfer,
+    // where the record stands: past a frame that is closed. The reset's length is 0 for none, as in the job that it goes to
+    Append { end: u16, closes: Closes, size: u8 },
 }
 
 // One byte more at the end, if it must change.
@@ -72,20 +69,16 @@ fn due_len(w: Newest) -> u8
     if w.pends { reset_len(w.edition) } else { 0 }
 }
 
+// What is done with the block. Its room for a torn frame stands in three contracts, and is no ghost field of Newest:
+// the definitions make a Newest of any survey or store, and each would have to carry the proof.
 pub fn mending(block: &[u8], w: Newest) -> Mend
     requires { w.end + w.torn ≤ block_max }
     ensures { result ≡ mend_in block.now w }
 {
     if moves(block.len(), w) {
-        return Mend {
-            moves: true,
-            end: w.end,
-            closes: Closes::new(0),
-            size: 0,
-        };
+        return Mend::Transfer;
     }
-    Mend {
-        moves: false,
+    Mend::Append {
         end: w.end + w.torn,
         closes: closing(block, w.end, w.torn),
         size: due_len(w),

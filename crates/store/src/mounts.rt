@@ -12,7 +12,7 @@ use crate::mends;
 use crate::mends::Mend;
 use board::{Job, Phase};
 use flash::MAX_BLOCKS;
-use frame::{BUFFER_LEN, Fault, Field, ID_MAX};
+use frame::{BUFFER_LEN, Edition, Fault, Field, ID_MAX};
 use job::records::Stepped;
 use job::{Outcome, records};
 use journal::TIME_AT;
@@ -23,9 +23,6 @@ use wire::{Answer, Refusal};
 
 // Past the last id: nothing is copied.
 const PAST_IDS: u16 = ID_MAX as u16 + 1;
-
-// The number of the edition that a format writes.
-const FORMATS: u8 = 1;
 
 // A refusal: the record is unmounted.
 fn refused(why: Refusal) -> Stepped
@@ -62,20 +59,32 @@ fn tied_times(number: u8) -> Refusal
 fn mount_at(blocks: u8, last: u16, w: Newest, list: Erases, m: Mend) -> Result<Stepped, Refusal>
     ensures { result ≡ mount_in blocks last w list m }
 {
-    let job = Job {
-        wipe: list.items,
+    let edition = u8::from(w.edition);
+    // names of their own, here and in a format: the borrow checker refuses an array field put straight into another value
+    let wipe = list.items;
+    let mut job = Job {
+        wipe,
         wipes: list.count,
-        moves: m.moves,
         drops: true,
         target: image::next_block(blocks, w.number),
-        time: surveys::next_time(m.moves, w.time)?,
-        size: m.size,
-        edition: u8::from(w.edition),
-        closes: m.closes.count,
-        close: m.closes.items,
+        edition,
         ..records::no_job()
     };
-    let rest = records::standing(blocks, last, w.number, m.end, u8::from(w.edition));
+    let end = match m {
+        Mend::Transfer => {
+            job.moves = true;
+            job.time = surveys::next_time(true, w.time)?;
+            w.end
+        }
+        Mend::Append { end, closes, size } => {
+            let close = closes.items;
+            job.close = close;
+            job.closes = closes.count;
+            job.size = size;
+            end
+        }
+    };
+    let rest = records::standing(blocks, last, w.number, end, edition);
     Ok(records::begin(rest, job, records::starting(0, w.end)))
 }
 
@@ -175,12 +184,13 @@ fn format_image(bytes: &[u8], blocks: u8) -> Result<Stepped, Refusal>
     let image = Image::try_new(bytes, blocks)?;
     let order = format_order(&image);
     let wipe = order.items;
+    let edition = u8::from(Edition::First);
     let job = Job {
         wipe,
         wipes: order.count,
         moves: true,
         time: 1,
-        edition: FORMATS,
+        edition,
         ..records::no_job()
     };
     let rest = records::standing(
@@ -188,7 +198,7 @@ fn format_image(bytes: &[u8], blocks: u8) -> Result<Stepped, Refusal>
         image.last(),
         image::next_block(image.blocks, 0),
         records::START,
-        FORMATS,
+        edition,
     );
     let cursor = records::starting(PAST_IDS, records::START);
     Ok(records::begin(rest, job, cursor))

@@ -27,7 +27,7 @@ pub(crate) struct Walk {
 }
 
 // Four states, the last with its fault: no Option or Result says them.
-#[derive(Clone, Copy)]
+#[derive(Clone, Copy, PartialEq, Eq)]
 pub enum BlockKind {
     Blank,
     InProgress,

@@ -5,7 +5,7 @@ use Rattle.store.proofs.mends.mending.Goals as goal
 
 pub returns-then-moves : goal.returns-then-moves
 unfolding mend_in
-returns-then-moves c = rw (sym c.moves.ensures ∙ c.if-moves.true, c.new.ensures)
+returns-then-moves c = rw (sym c.moves.ensures ∙ c.if-moves.true)
 
 pub returns : goal.returns
 unfolding mend_in

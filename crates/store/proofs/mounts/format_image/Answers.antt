@@ -16,5 +16,5 @@ pub returns : goal.returns
 returns c =
     let i = c.in_ok-image.image in
     rw (sym c.in_ok-image.ensures.0, sym c.in_ok-image.ensures.1)
-    (rw (c.begin.ensures, c.starting-cursor.ensures, c.standing-rest.ensures, c.next_block.ensures, c.last.ensures, c.no_job.ensures)
+    (rw (c.begin.ensures, c.starting-cursor.ensures, c.standing-rest.ensures, c.next_block.ensures, c.last.ensures, c.no_job.ensures, c.from-edition.ensures)
     (format-is _ _ c.format_order-order.result i.is_allowed c.format_order-order.ensures))

@@ -15,7 +15,7 @@ returns-in_err-w c =
 
 pub returns-in-Some : goal.returns-in-Some
 returns-in-Some c =
-    let t : c.args.z.tie ≡ Some c.in-Some.lowest = cc in
+    let t : c.args.z.tie ≡ Some c.in-Some.lowest = c.in-Some.is in
     ap (λ k. Err k) c.tied_times.ensures ∙ tie_is _ _ c.args.z c.in-Some.lowest c.in_ok-w.ensures.ok_part t
 
 pub others-list-requires : goal.others-list-requires
@@ -23,6 +23,6 @@ others-list-requires c = (sized_of _ _ c.args.image.now.is_allowed).most
 
 pub returns : goal.returns
 returns c =
-    let t : c.args.z.tie ≡ None = cc in
+    let t : c.args.z.tie ≡ None = c.in_default.is in
     c.mount_at.ensures
     ∙ rw c.last.ensures (taken_is _ _ c.args.z c.in_ok-w.ensures.ok_part t c.others-list.ensures c.mending-m.ensures c.block.ensures)
