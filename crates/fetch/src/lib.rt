@@ -88,7 +88,7 @@ fn is_pending(since: [u16; 4], at: usize, head: Head) -> bool
     ensures { result ≡ pending_head since at head }
 {
     match head {
-        Head::Put(host, _, _) | Head::Delete(host, _) => usize::from(hosts::of_host(since, host)) <= at,
+        Head::Put(host, _, _) | Head::Delete(host, _) => hosts::of_host(since, host) as usize <= at,
         _ => false,
     }
 }
