@@ -3,19 +3,18 @@ use mathlib.Core.Path.{◌≡◌, refl, sym, ap, ap₂, subst₂, ◌∙◌}
 use mathlib.Core.List.{List}
 use mathlib.Core.Option.{some}
 use mathlib.Core.Bool.{Bool, true, false}
-use Prim.Native.Nat.{ℕ, ◌+◌, ◌≤◌, ◌<◌}
+use Prim.Native.Nat.{ℕ, ◌≤◌, ◌<◌}
 use native.Mathlib.Omega.{arith}
 use lib.Dec.{leb}
 use lib.ListN.{length}
 use borrow.Author.Tests.{leb-true}
 use Rattle.flash.specs.Bytes.{Bytes}
 use Rattle.flash.specs.Flash.{block, size_of}
-use Rattle.frame.specs.Frame.{host_max, total}
+use Rattle.frame.specs.Frame.{host_max}
 use Rattle.survey.specs.declared.Survey.{Survey}
 use Rattle.survey.specs.Survey.{survey_of}
-use Rattle.journal.specs.Block.{header_len, Journal, BlockState, blank, in_progress, valid, foreign, block_state}
+use Rattle.journal.specs.Block.{Journal, BlockState, blank, in_progress, valid, foreign, block_state}
 use Rattle.journal.proofs.States.{Contents}
-use Rattle.journal.proofs.Blocks.{layout-size}
 use Rattle.wire.specs.declared.Refusal.{Refusal}
 use Rattle.wire.specs.declared.Request.{Request}
 use Rattle.wire.specs.declared.Request.TheVariants.{Put, Delete, Commit, Abort, Read, Log, Convert}
@@ -104,12 +103,9 @@ module _ (a : Asking) (x : Journal) (y : Bytes a.image) (ok : allowed a.blocks (
   pub current_long : length current ≡ size_for a
   current_long = block_length a.blocks a.image r.rest.block ok there
 
-  -- what serving asks of a survey
-  pub survey_fits : (s : Survey) (b : List ℕ) → s ≡ survey_of (valid x) → b ≡ current → (s.end ≤ length b) × (length b ≤ 32768)
-  unfolding survey_of
-  survey_fits s b es eb =
-      let n : header_len + total x.edition x.frames ≤ length current = omega (arith, layout-size contents.layout) in
-      rw (es, eb) (n, (block_fits a.blocks a.image r.rest.block ok there).1)
+  -- what serving asks of a block
+  pub block_short : (b : List ℕ) → b ≡ current → length b ≤ 32768
+  block_short b eb = rw eb (block_fits a.blocks a.image r.rest.block ok there).1
 
   module _ (h : leb a.host.0 host_max ≡ true) (k : of_read_kind a.message ≡ false) (p : r.phase ≡ Idle) (q : Request) (w : parse a.message ≡ Some q)
       (s : Survey) (b t : List ℕ) (es : s ≡ survey_of (valid x)) (eb : b ≡ current) (et : t ≡ places_in x) where

@@ -2,7 +2,7 @@
 ghost use Rattle.queue.specs.Calls.{Gated};
 
 use board::Phase;
-use frame::Host;
+use frame::{HOST_MAX, Host};
 use looks::image::Image;
 use wire::Refusal;
 
@@ -12,7 +12,7 @@ pub fn check(bytes: &[u8], blocks: u8, phase: Phase, host: Host) -> Result<Image
     ensures { Gated blocks bytes.now phase host result }
 {
     let image = Image::try_new(bytes, blocks)?;
-    if 3 < host.0 {
+    if HOST_MAX < usize::from(host.0) {
         return Err(Refusal::HostRange);
     }
     match phase {

@@ -29,22 +29,8 @@ pub fn same_image(image: &Image<'_>, rest: Rest) -> bool
         && others_blank(image, rest.block)
 }
 
-// The current block is as an idle record has it, but for the places.
-#[tactic(auto, using(crate::proofs::Counts::same_is), unfolding(crate::specs::Calls::as_recorded))]
-fn as_recorded(size: usize, rest: Rest, s: Survey) -> bool
-    ensures { result ≡ as_recorded size rest s }
-{
-    surveys::is_valid(s.kind)
-        && s.torn == 0
-        && u8::from(s.edition) == rest.edition
-        && s.end == rest.end
-        && s.pending == rest.pending
-        && room::claimed(s) + room::end_len(s.edition) as usize * room::open_hosts(s.pending)
-            <= size
-}
-
 // The current block and its places are as an idle record has them.
-#[tactic(auto, using(crate::proofs::Counts::same_is))]
+#[tactic(auto, using(crate::proofs::Counts::same_is), unfolding(crate::specs::Calls::as_recorded))]
 pub fn is_fresh(
     size: usize,
     rest: Rest,
@@ -54,5 +40,12 @@ pub fn is_fresh(
 ) -> bool
     ensures { result ≡ (as_recorded size rest s && same_bytes_of places.now recorded.now) }
 {
-    as_recorded(size, rest, s) && places == recorded
+    surveys::is_valid(s.kind)
+        && s.torn == 0
+        && u8::from(s.edition) == rest.edition
+        && s.end == rest.end
+        && s.pending == rest.pending
+        && room::claimed(s) + usize::from(room::end_len(s.edition)) * room::open_hosts(s.pending)
+            <= size
+        && places == recorded
 }

@@ -1,4 +1,5 @@
 // The queue in code: requests and reads, each equal to its definition, on every input.
+// A call's parts (image and blocks, phase and rest, host and message) come one by one: README names these functions so, and C hands each over apart.
 #![tactic(auto)]
 
 mod gate;

@@ -36,8 +36,8 @@ fn at_place(image: &Image<'_>, rest: Rest, place: u16, id: ObjectId) -> Result<S
     let edition = Edition::from(rest.edition);
     let found = fetch::value_at(block, edition, id, place).ok_or(Refusal::Stale)?;
     Ok(Stretch {
-        at: rest.block as usize * image.size() + found.at,
-        size: found.size as usize,
+        at: usize::from(rest.block) * image.size() + found.at,
+        size: usize::from(found.size),
     })
 }
 

@@ -82,12 +82,10 @@ pub fn request_core(
         (asking blocks image.now (resting phase recorded.now rest) host message.now reply.old)
         result (left places.new frame.new reply.new) }
 {
-    match try_request(
+    try_request(
         image, blocks, phase, rest, recorded, host, message, reply, places, frame,
-    ) {
-        Ok(begun) => begun,
-        Err(why) => serving::refused(why, rest),
-    }
+    )
+    .unwrap_or_else(|why| serving::refused(why, rest))
 }
 
 pub fn request(

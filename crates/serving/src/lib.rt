@@ -21,6 +21,9 @@ use looks::{image, surveys};
 use survey::Survey;
 use wire::{Answer, Page, Refusal, Request};
 
+// A summary page's length, as wire writes it, whose own constant is private.
+const PAGE_LEN: usize = 14;
+
 // Nothing began: what is to be answered.
 pub fn done(rest: Rest) -> Stepped
     ensures { result ≡ done rest }
@@ -34,11 +37,11 @@ pub fn refused(why: Refusal, rest: Rest) -> Stepped
     records::at_rest(Answer::Refused(why), Phase::Idle, rest)
 }
 
-// An id's place; 0 for an id that isn't there.
+// An id's place; 0 for an id that isn't there. `get_or` at its callers would be no plainer: each would take the id's number out.
 pub fn place_of(places: &[u16], id: ObjectId) -> u16
     ensures { result ≡ get_or places.now id.0 0 }
 {
-    flash::get_or(places, id.0 as usize, 0)
+    flash::get_or(places, usize::from(id.0), 0)
 }
 
 // The same place, with so much pending.
@@ -48,145 +51,149 @@ fn counting(rest: Rest, pending: [u16; 4]) -> Rest
     Rest { pending, ..rest }
 }
 
-// A frame of n bytes appended, after a transfer if it goes past the block's end. With it the hosts have so much pending.
-#[tactic(auto, unfolding(crate::specs::Calls::append_in))]
-fn append(size: usize, rest: Rest, s: Survey, n: u8, pending: [u16; 4]) -> Result<Stepped, Refusal>
-    ensures { begun_or rest result ≡ append_in size rest s n pending }
-{
-    let moves = size < rest.end as usize + n as usize;
-    let time = surveys::next_time(moves, s.time)?;
-    let since = s.since;
-    let job = Job {
-        moves,
-        drops: true,
-        target: image::next_block(rest.blocks, rest.block),
-        time,
-        since,
-        size: n,
-        edition: u8::from(s.edition),
-        ..records::no_job()
-    };
-    let started = records::starting(0, records::START);
-    Ok(records::begin(counting(rest, pending), job, started))
-}
-
-// A put or delete, which leaves so much besides.
-#[tactic(auto, unfolding(crate::specs::Calls::change_in))]
-fn serve_change(
+// The store that a request meets: its block's size, where its record stands, and what is known of the block.
+#[derive(Clone, Copy)]
+struct Held {
     size: u16,
     rest: Rest,
-    s: Survey,
-    host: Host,
-    n: u8,
-    spare: u8,
-) -> Result<Stepped, Refusal>
-    ensures { begun_or rest result ≡ change_in size rest s host n spare }
-{
-    let room = size as usize;
-    let bytes = fetch::of_host(s.pending, host) as usize + n as usize;
-    if room < 2 * bytes {
-        return Err(Refusal::HostFull);
-    }
-    if room::no_room(room, s, host, n, spare) {
-        return Err(Refusal::NoRoom);
-    }
-    append(
-        room,
-        rest,
-        s,
-        n,
-        fetch::with_host(s.pending, host, bytes as u16),
-    )
+    survey: Survey,
 }
 
-// A commit or an abort: with nothing pending it is done at once.
-#[tactic(auto, unfolding(crate::specs::Calls::end_in))]
-fn serve_end(size: usize, rest: Rest, s: Survey, host: Host) -> Result<Stepped, Refusal>
-    ensures { begun_or rest result ≡ end_in size rest s host }
-{
-    if fetch::of_host(s.pending, host) == 0 {
-        return Ok(done(rest));
+impl Held {
+    // A frame of n bytes appended, after a transfer if it goes past the block's end. With it the hosts have so much pending.
+    #[tactic(auto, unfolding(crate::specs::Calls::append_in))]
+    fn append(self, n: u8, pending: [u16; 4]) -> Result<Stepped, Refusal>
+        ensures { begun_or self.rest result ≡ append_in self.size self.rest self.survey n pending }
+    {
+        let Held { size, rest, survey } = self;
+        let Survey {
+            edition,
+            time,
+            since,
+            ..
+        } = survey;
+        let moves = usize::from(size) < usize::from(rest.end) + usize::from(n);
+        let time = surveys::next_time(moves, time)?;
+        let job = Job {
+            moves,
+            drops: true,
+            target: image::next_block(rest.blocks, rest.block),
+            time,
+            since,
+            size: n,
+            edition: u8::from(edition),
+            ..records::no_job()
+        };
+        let started = records::starting(0, records::START);
+        Ok(records::begin(counting(rest, pending), job, started))
     }
-    append(
-        size,
-        rest,
-        s,
-        room::end_len(s.edition),
-        fetch::with_host(s.pending, host, 0),
-    )
-}
 
-// A commit. Its list is applied to the places, unless a transfer is to place what it copies.
-fn serve_commit(
-    block: &[u8],
-    rest: Rest,
-    s: Survey,
-    host: Host,
-    places: &mut [u16; 256],
-) -> Result<Stepped, Refusal>
-    requires { (s.end ≤ length block.now) × (length block.now ≤ block_max) }
-    ensures { (begun_or rest result ≡ end_in (length block.now) rest s host)
-        × (places.new ≡ committed block.now s host (begun_or rest result) places.old) }
-{
-    let begun = serve_end(block.len(), rest, s, host)?;
-    if !begun.ended && !begun.next.job.moves {
-        survey::commit(block, s, host, places);
+    // A put or delete, which leaves so much besides.
+    #[tactic(auto, unfolding(crate::specs::Calls::change_in))]
+    fn serve_change(self, host: Host, n: u8, spare: u8) -> Result<Stepped, Refusal>
+        ensures { begun_or self.rest result ≡ change_in self.size self.rest self.survey host n spare }
+    {
+        let room = usize::from(self.size);
+        let pending = self.survey.pending;
+        let bytes = usize::from(fetch::of_host(pending, host)) + usize::from(n);
+        if room < 2 * bytes {
+            return Err(Refusal::HostFull);
+        }
+        if room::no_room(room, self.survey, host, n, spare) {
+            return Err(Refusal::NoRoom);
+        }
+        self.append(n, fetch::with_host(pending, host, bytes as u16))
     }
-    Ok(begun)
-}
 
-#[tactic(auto, unfolding(crate::specs::Calls::log_in, wire::specs::Code::page_into))]
-fn serve_log(
-    size: u16,
-    rest: Rest,
-    s: Survey,
-    page: Page,
-    reply: &mut [u8],
-) -> Result<Stepped, Refusal>
-    ensures { (begun_or rest result ≡ log_in rest reply.old) × (reply.new ≡ reply_log size s reply.old) }
-{
-    match page {
-        Page::Summary => {
-            if reply.len() < 14 {
-                return Err(Refusal::ShortReply);
+    // A commit or an abort: with nothing pending it is done at once.
+    #[tactic(auto, unfolding(crate::specs::Calls::end_in))]
+    fn serve_end(self, host: Host) -> Result<Stepped, Refusal>
+        ensures { begun_or self.rest result ≡ end_in self.size self.rest self.survey host }
+    {
+        let Survey {
+            edition,
+            pending,
+            ..
+        } = self.survey;
+        if fetch::of_host(pending, host) == 0 {
+            return Ok(done(self.rest));
+        }
+        self.append(room::end_len(edition), fetch::with_host(pending, host, 0))
+    }
+
+    // A commit. Its list is applied to the places, unless a transfer is to place what it copies.
+    fn serve_commit(
+        self,
+        block: &[u8],
+        host: Host,
+        places: &mut [u16; 256],
+    ) -> Result<Stepped, Refusal>
+        requires { length block.now ≤ block_max }
+        ensures { (begun_or self.rest result ≡ end_in self.size self.rest self.survey host)
+            × (places.new ≡ committed block.now self.survey host (begun_or self.rest result) places.old) }
+    {
+        let begun = self.serve_end(host)?;
+        if !begun.ended && !begun.next.job.moves {
+            survey::commit(block, self.survey, host, places);
+        }
+        Ok(begun)
+    }
+
+    #[tactic(auto, unfolding(crate::specs::Calls::log_in, wire::specs::Code::page_into))]
+    fn serve_log(self, page: Page, reply: &mut [u8]) -> Result<Stepped, Refusal>
+        ensures { (begun_or self.rest result ≡ log_in self.rest reply.old)
+            × (reply.new ≡ reply_log self.size self.survey reply.old) }
+    {
+        match page {
+            Page::Summary => {
+                if reply.len() < PAGE_LEN {
+                    return Err(Refusal::ShortReply);
+                }
+                let Survey {
+                    time,
+                    count,
+                    used,
+                    ..
+                } = self.survey;
+                wire::write_page(reply, time, count, used, self.size);
+                Ok(done(self.rest))
             }
-            wire::write_page(reply, s.time, s.count, s.used, size);
-            Ok(done(rest))
         }
     }
-}
 
-// A transfer takes the store to the second edition. Nothing is pending: it starts to look for pending frames at the end.
-#[tactic(auto, unfolding(crate::specs::Calls::convert_by))]
-fn convert(rest: Rest, s: Survey) -> Result<Stepped, Refusal>
-    ensures { begun_or rest result ≡ convert_by rest s edition.First }
-{
-    let time = surveys::next_time(true, s.time)?;
-    let job = Job {
-        moves: true,
-        drops: true,
-        target: image::next_block(rest.blocks, rest.block),
-        time,
-        edition: u8::from(Edition::Second),
-        ..records::no_job()
-    };
-    Ok(records::begin(rest, job, records::starting(0, s.end)))
-}
+    // A transfer takes the store to the second edition. Nothing is pending: it starts to look for pending frames at the end.
+    #[tactic(auto, unfolding(crate::specs::Calls::convert_by))]
+    fn convert(self) -> Result<Stepped, Refusal>
+        ensures { begun_or self.rest result ≡ convert_by self.rest self.survey edition.First }
+    {
+        let Held { rest, survey, .. } = self;
+        let time = surveys::next_time(true, survey.time)?;
+        let job = Job {
+            moves: true,
+            drops: true,
+            target: image::next_block(rest.blocks, rest.block),
+            time,
+            edition: u8::from(Edition::Second),
+            ..records::no_job()
+        };
+        Ok(records::begin(rest, job, records::starting(0, survey.end)))
+    }
 
-// With something pending a store stays as it is.
-#[tactic(auto, unfolding(crate::specs::Calls::convert_in, crate::specs::Calls::convert_by))]
-fn serve_convert(size: usize, rest: Rest, s: Survey) -> Result<Stepped, Refusal>
-    ensures { begun_or rest result ≡ convert_in size rest s }
-{
-    if 0 < surveys::sum(s.pending) {
-        return Err(Refusal::Pending);
-    }
-    if size < room::used_second(s) {
-        return Err(Refusal::NoRoom);
-    }
-    match s.edition {
-        Edition::First => convert(rest, s),
-        Edition::Second => Ok(done(rest)),
+    // With something pending a store stays as it is.
+    #[tactic(auto, unfolding(crate::specs::Calls::convert_in, crate::specs::Calls::convert_by))]
+    fn serve_convert(self) -> Result<Stepped, Refusal>
+        ensures { begun_or self.rest result ≡ convert_in self.size self.rest self.survey }
+    {
+        if 0 < surveys::sum(self.survey.pending) {
+            return Err(Refusal::Pending);
+        }
+        if usize::from(self.size) < room::used_second(self.survey) {
+            return Err(Refusal::NoRoom);
+        }
+        match self.survey.edition {
+            Edition::First => self.convert(),
+            Edition::Second => Ok(done(self.rest)),
+        }
     }
 }
 
@@ -219,6 +226,7 @@ fn lay_frame(
 }
 
 // What a message asks for, done: the job's numbers, its places and its frame. A read goes by its place: it is not for here.
+// What is held and asked comes in parts, the block as a slice whose length is required: docs name `serve` so, and survey's `commit` asks the same.
 pub fn serve(
     block: &[u8],
     rest: Rest,
@@ -230,7 +238,7 @@ pub fn serve(
     frame: &mut [u8; BUFFER_LEN],
     ask: Request,
 ) -> Result<Stepped, Refusal>
-    requires { (parse message.now ≡ Some ask) × (s.end ≤ length block.now) × (length block.now ≤ block_max) }
+    requires { (parse message.now ≡ Some ask) × (length block.now ≤ block_max) }
     ensures { (begun_or rest result ≡ serve_in (length block.now) rest reply.old host message.now s ask)
         × (reply.new ≡ reply_in (length block.now) s reply.old ask)
         × (places.new ≡ places_by block.now s host (begun_or rest result) ask places.old)
@@ -238,19 +246,22 @@ pub fn serve(
 {
     let n = room::change_len(s.edition);
     lay_frame(s.edition, host, message, ask, frame);
-    let room = block.len();
-    let size = room as u16;
+    let held = Held {
+        size: block.len() as u16,
+        rest,
+        survey: s,
+    };
     match ask {
         Request::Put(_) => {
             let v = wire::value(message).len() as u8;
             // it leaves room for a delete and a commit
-            serve_change(size, rest, s, host, n + v, n + room::end_len(s.edition))
+            held.serve_change(host, n + v, n + room::end_len(s.edition))
         }
-        Request::Delete(_) => serve_change(size, rest, s, host, n, 0),
-        Request::Commit => serve_commit(block, rest, s, host, places),
-        Request::Abort => serve_end(room, rest, s, host),
+        Request::Delete(_) => held.serve_change(host, n, 0),
+        Request::Commit => held.serve_commit(block, host, places),
+        Request::Abort => held.serve_end(host),
         Request::Read(_) => Ok(done(rest)),
-        Request::Log(page) => serve_log(size, rest, s, page, reply),
-        Request::Convert => serve_convert(room, rest, s),
+        Request::Log(page) => held.serve_log(page, reply),
+        Request::Convert => held.serve_convert(),
     }
 }

@@ -8,7 +8,7 @@ use frame::{DELETE_LEN, END_LEN, Edition, Host};
 use looks::surveys;
 use survey::Survey;
 
-// The length of a commit or an abort.
+// The length of a commit or an abort. One function of any length would be no plainer: it would have to require that the sum is a u8.
 pub fn end_len(edition: Edition) -> u8
     ensures { (result ≡ end_len edition) × (result ≤ 10) }
 {
@@ -26,7 +26,7 @@ pub fn change_len(edition: Edition) -> u8
 pub fn claimed(s: Survey) -> usize
     ensures { (result ≡ claimed_in s) × (result ≤ 327675) }
 {
-    s.used as usize + surveys::sum(s.pending)
+    usize::from(s.used) + surveys::sum(s.pending)
 }
 
 // U in the second edition, in which each object's frame has a check.
@@ -34,8 +34,8 @@ pub fn used_second(s: Survey) -> usize
     ensures { result ≡ second_in s.edition s }
 {
     match s.edition {
-        Edition::First => s.used as usize + 4 * s.count as usize,
-        Edition::Second => s.used as usize,
+        Edition::First => usize::from(s.used) + 4 * usize::from(s.count),
+        Edition::Second => usize::from(s.used),
     }
 }
 
@@ -51,7 +51,7 @@ fn open_with(host: Host, p: [u16; 4]) -> usize
     ensures { (result ≡ open_with host p) × (result ≤ 4) }
 {
     (0..4)
-        .filter(|j| host.0 == *j || 0 < fetch::of_host(p, Host(*j)))
+        .filter(|j| host == Host(*j) || 0 < fetch::of_host(p, Host(*j)))
         .count()
 }
 
@@ -60,6 +60,6 @@ fn open_with(host: Host, p: [u16; 4]) -> usize
 pub fn no_room(size: usize, s: Survey, host: Host, n: u8, spare: u8) -> bool
     ensures { result ≡ no_room_in size s host n spare }
 {
-    let open = end_len(s.edition) as usize * open_with(host, s.pending);
-    size < claimed(s) + n as usize + open + spare as usize
+    let open = usize::from(end_len(s.edition)) * open_with(host, s.pending);
+    size < claimed(s) + usize::from(n) + open + usize::from(spare)
 }

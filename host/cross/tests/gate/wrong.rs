@@ -79,7 +79,7 @@ fn a_longer_value() {
 /// A log's reply may be of 13 bytes: only calls at random ask so. The message is a log of page 1, refused for its reply only.
 #[test]
 fn a_shorter_reply() {
-    let text = changed("serving::serve_log", ", 14\n", ", 13\n");
+    let text = changed("serving::Held::serve_log", ", 14\n", ", 13\n");
     let Difference { own, target, .. } = found("reply", &WASM32, RANDOM_ROUNDS, &text);
     let told = |words: &str| {
         let log = words.contains("message of 5 bytes: 05 00 06 01 01\n");

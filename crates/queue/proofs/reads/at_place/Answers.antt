@@ -13,10 +13,10 @@ inside c e =
     (c.ok_or.ensures.ok_part ∙ ap result_ok c.in_ok-found.was)
 
 pub overflow_mul-result : goal.overflow_mul-result
-overflow_mul-result c = omega (arith, inside (goal.at.overflow_mul-result c).In_ok-found c.size.ensures)
+overflow_mul-result c = rw c.from.ensures (omega (arith, inside (goal.at.overflow_mul-result c).In_ok-found c.size.ensures))
 
 pub overflow_add-result : goal.overflow_add-result
-overflow_add-result c = omega (arith, inside (goal.at.overflow_add-result c).In_ok-found c.size.ensures)
+overflow_add-result c = rw c.from.ensures (omega (arith, inside (goal.at.overflow_add-result c).In_ok-found c.size.ensures))
 
 pub returns-clause-inside : goal.returns-clause-inside
-returns-clause-inside c = (inside (goal.at.returns-clause-inside c).In_ok-found c.size.ensures).0
+returns-clause-inside c = rw (c.from.ensures, c.from-2.ensures) (inside (goal.at.returns-clause-inside c).In_ok-found c.size.ensures).0

@@ -11,7 +11,7 @@ use Rattle.board.proofs.Outcomes.{request_stale, request_malformed}
 use Rattle.serving.specs.Calls.{begun_or}
 use Rattle.queue.specs.Calls.{alike, answering}
 use Rattle.queue.proofs.Asking.{opened, malformed_is, shut, Looked, not_same, not_fresh, was_fresh}
-use Rattle.queue.proofs.Handing.{refused_all, held-alike, survey_fits, served_reply, served_asks}
+use Rattle.queue.proofs.Handing.{refused_all, held-alike, block_short, served_reply, served_asks}
 use Rattle.queue.proofs.Finding.{heard_by, read_asks}
 use Rattle.queue.proofs.requests.try_request.Goals as goal
 use Rattle.queue.proofs.requests.try_request.Goals.{After-survey_block-s}
@@ -93,9 +93,10 @@ serve-requires c =
     let i = c.in_ok-image.image in
     -- the record fits
     let x = was_fresh (looked (goal.at.serve-requires c).After-survey_block-s) (sym c.if-not-is_fresh.ensures) in
-    let a : Asking = asking _ i.bytes.now (idle c.args.recorded.now c.args.rest) c.args.host c.args.message.now c.args.reply.now in
-    let n = survey_fits a x.0 (bytes_of i.bytes.now i.are_bytes) i.is_allowed x.1 _ _ x.2 c.block-block.ensures in
-    (sym c.parse.ensures ∙ c.ok_or.ensures.ok_part ∙ ap result_ok c.in_ok-ask.was, n.0, n.1)
+    let a : Asking = asking _ i.bytes.now (idle c.args.recorded.now c.args.rest) c.args.host c.args.message.now c.args.reply.now in (
+      sym c.parse.ensures ∙ c.ok_or.ensures.ok_part ∙ ap result_ok c.in_ok-ask.was,
+      block_short a x.0 (bytes_of i.bytes.now i.are_bytes) i.is_allowed x.1 _ c.block-block.ensures,
+    )
 
 pub returns : goal.returns
 returns c =
