@@ -67,15 +67,22 @@ judged_blank x t u v = (ap Ok (u ∙ empty-blank.survey), v ∙ empty-blank.plac
 judged_progress : (x : Survey) (t : List ℕ) → x ≡ empty_survey kind.InProgress → t ≡ replicate 256 0 → Judged in_progress (Ok x) t
 judged_progress x t u v = (ap Ok (u ∙ empty-progress.survey), v ∙ empty-progress.places)
 
+-- a fault is a foreign block's, which has no places
+none_there : (s : BlockState) (f : Fault) → Err f ≡ verdict s → replicate 256 0 ≡ places_in s
+none_there blank f e = cc
+none_there in_progress f e = cc
+none_there (valid j) f e = cc
+none_there (foreign g) f e = (empty-foreign g).places
+
+pub judged_foreign : (s : BlockState) (f : Fault) (r : Result Survey Fault) (t : List ℕ) → r ≡ Err f → r ≡ verdict s → t ≡ replicate 256 0 → Judged s r t
+judged_foreign s f r t q e v = (e, v ∙ none_there s f (sym q ∙ e))
+
 -- what the code then gives back
-pub err_right : (s : BlockState) (f : Fault) (x : Survey) (t : List ℕ) → Err f ≡ verdict s → x ≡ empty_survey (kind.Foreign f) → t ≡ replicate 256 0
-    → (x ≡ survey_of s) × (t ≡ places_in s)
-err_right blank f x t e u v = cc
-err_right in_progress f x t e u v = cc
-err_right (valid j) f x t e u v = cc
-err_right (foreign g) f x t e u v =
-    let q : f ≡ g = cc in
-    (u ∙ ap (λ (y : Fault). empty_survey (kind.Foreign y)) q ∙ (empty-foreign g).survey, v ∙ (empty-foreign g).places)
+pub err_right : (s : BlockState) (f : Fault) (x : Survey) → Err f ≡ verdict s → x ≡ empty_survey (kind.Foreign f) → x ≡ survey_of s
+err_right blank f x e u = cc
+err_right in_progress f x e u = cc
+err_right (valid j) f x e u = cc
+err_right (foreign g) f x e u = let q : f ≡ g = cc in u ∙ ap (λ (y : Fault). empty_survey (kind.Foreign y)) q ∙ (empty-foreign g).survey
 
 -- ---- by the block's length
 
@@ -169,9 +176,10 @@ module _ (ed : Edition) (b : List ℕ) (g : ed ≡ edition_in b) (h : header_len
   tail_bad f (cut n) e = cc
   tail_bad f (bad g) e = cc
 
-  pub frames_bad : (f : Fault) (t : List ℕ) → Err f ≡ walk_of ed frames_scan → Judged (of_header b none) (Err f) t
-  frames_bad f t e =
-      judged_as (foreign f) (of_header b none) (Err f) t (of-header ∙ ap (λ (c : Tail). of_journal (read c)) (tail_bad f frames_scan.tail e)) (refl, tt)
+  pub frames_bad : (f : Fault) (t : List ℕ) → Err f ≡ walk_of ed frames_scan → t ≡ replicate 256 0 → Judged (of_header b none) (Err f) t
+  frames_bad f t e v =
+      judged_as (foreign f) (of_header b none) (Err f) t (of-header ∙ ap (λ (c : Tail). of_journal (read c)) (tail_bad f frames_scan.tail e))
+      (refl, v ∙ (empty-foreign f).places)
 
   module _ (w : Walk) (e : Ok w ≡ walk_of ed frames_scan) where
     -- a torn frame would fit

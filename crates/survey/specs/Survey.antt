@@ -1,5 +1,5 @@
 -- What a survey says of a block, and what the code's answers stand for.
-use Rattle.std.specs.Prelude.{◌≡◌, List, Bool, true, false, ◌&&◌, ℕ, ◌+◌, leb, length, Result, Ok, Err, IfOk}
+use Rattle.std.specs.Prelude.{◌≡◌, List, Bool, true, false, ◌&&◌, ℕ, ◌+◌, leb, length, Result, Ok, Err}
 use Rattle.frame.specs.declared.Edition.{Edition}
 use Rattle.frame.specs.declared.Fault.{Fault}
 use Rattle.frame.specs.declared.Field.TheVariants as field
@@ -62,6 +62,6 @@ verdict in_progress = Ok (survey_of in_progress)
 verdict (valid x) = Ok (survey_of (valid x))
 verdict (foreign e) = Err e
 
--- it found that out; where the block isn't foreign, each id has its place
+-- it found that out, and each id has its place, which is none in a foreign block
 abbrev pub Judged : BlockState → Result Survey Fault → List ℕ → Type 0
-Judged s r places = (r ≡ verdict s) × IfOk r (λ x. places ≡ places_in s)
+Judged s r places = (r ≡ verdict s) × (places ≡ places_in s)

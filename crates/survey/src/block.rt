@@ -105,8 +105,13 @@ impl<'a> Block<'a> {
         requires { (header_len ≤ length self.bytes.now) × (self.edition ≡ edition_in self.bytes.now) × (places.old ≡ replicate 256 0) }
         ensures { Judged (of_header self.entry.bytes.now none) result places.new }
     {
-        let walk = self.walk(places)?;
-        Ok(self.found(places, walk))
+        match self.walk(places) {
+            Ok(walk) => Ok(self.found(places, walk)),
+            Err(fault) => {
+                places.fill(0);
+                Err(fault)
+            }
+        }
     }
 }
 
@@ -127,7 +132,7 @@ fn empty(kind: BlockKind) -> Survey
     }
 }
 
-// A block and the place of every id; a foreign block's fault, with no promise of the places.
+// A block and the place of every id, or a foreign block's fault. The table is cleared at the start, and again only where frames were walked.
 #[tactic(auto, unfolding(crate::specs::Survey::state_of, journal::specs::Block::block_state))]
 fn judge(block: &[u8], places: &mut [u16; 256]) -> Result<Survey, Fault>
     ensures { Judged (state_of block.now) result places.new }
@@ -159,10 +164,7 @@ pub fn survey_block(block: &[u8], places: &mut [u16; 256]) -> Survey
 {
     match judge(block, places) {
         Ok(survey) => survey,
-        Err(fault) => {
-            places.fill(0);
-            empty(BlockKind::Foreign(fault))
-        }
+        Err(fault) => empty(BlockKind::Foreign(fault)),
     }
 }
 
