@@ -35,6 +35,10 @@ sum_of p = get_or p 0 0 + get_or p 1 0 + get_or p 2 0 + get_or p 3 0
 abbrev pub pends_in : Survey → Bool
 pends_in s = ltb 0 (sum_of s.pending)
 
--- the creation time of the block that is made, 0 for none; or there is no later one
+-- the creation time of the block that is made; 0 for none, also where there is no later time
+abbrev pub time_for : Bool → ℕ → ℕ
+time_for moves time = cond (moves && eqb time last_time) 0 (new_time moves time)
+
+-- the same, or that there is no later time
 abbrev pub next_time : Bool → ℕ → Result ℕ Refusal
 next_time moves time = cond (moves && eqb time last_time) (Err refusal.Worn) (Ok (new_time moves time))

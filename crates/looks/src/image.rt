@@ -1,6 +1,6 @@
 // The image: which lengths are allowed, and its blocks.
-ghost use Rattle.std.specs.Prelude.{◌≡◌, true, ℕ, ◌-◌, ◌<◌, length, get_or};
-ghost use Rattle.flash.specs.Flash.{block, size_of};
+ghost use Rattle.std.specs.Prelude.{◌≡◌, ◌&&◌, true, ℕ, ◌-◌, ◌*◌, ◌%◌, ◌<◌, eqb, leb, length, get_or};
+ghost use Rattle.flash.specs.Flash.{block, size_in, size_of};
 ghost use Rattle.board.specs.Record.{allowed};
 ghost use Rattle.board.specs.Mount.{next_block};
 
@@ -12,8 +12,11 @@ use wire::Refusal;
 pub struct Image<'a> {
     pub bytes: &'a [u8],
     pub blocks: u8,
+    // the size of each block, divided once: a read is as short as two divisions
+    pub size: usize,
     ghost is_allowed: { allowed blocks (length bytes.now) ≡ true },
     ghost are_bytes: { (i : ℕ) → get_or bytes.now i 0 < 256 },
+    ghost is_size: { size ≡ size_of blocks bytes.now },
 }
 
 impl<'a> Image<'a> {
@@ -23,8 +26,13 @@ impl<'a> Image<'a> {
     pub fn try_new(bytes: &'a [u8], blocks: u8) -> Result<Image<'a>, Refusal>
         ensures { Opens bytes.now blocks result }
     {
-        if is_allowed(Shape::of(bytes, blocks)) {
-            Ok(Image { bytes, blocks })
+        let shape = Shape::of(bytes, blocks);
+        if is_allowed(shape) {
+            Ok(Image {
+                bytes,
+                blocks,
+                size: shape.size(),
+            })
         } else {
             Err(Refusal::ImageLength)
         }
@@ -34,7 +42,7 @@ impl<'a> Image<'a> {
     pub fn size(&self) -> usize
         ensures { result ≡ size_of self.now.blocks self.now.bytes.now }
     {
-        flash::size_of(self.blocks, self.bytes.len())
+        self.size
     }
 
     pub fn block(&self, number: u8) -> &'a [u8]
@@ -51,15 +59,20 @@ impl<'a> Image<'a> {
     }
 }
 
+// The blocks are the whole image, and as long as blocks may be.
+fn is_size_allowed(shape: Shape) -> bool
+    ensures { result ≡ (eqb (shape.blocks * size_in shape.blocks shape.len) shape.len
+        && (eqb (size_in shape.blocks shape.len % 128) 0 && leb 256 (size_in shape.blocks shape.len))) }
+{
+    let size = shape.size();
+    usize::from(shape.blocks) * size == shape.len && size % 128 == 0 && 256 <= size
+}
+
+// The length is tested before it is divided: so the division is of 32 bits, as the one that then gives the size, and is made once.
 pub fn is_allowed(shape: Shape) -> bool
     ensures { result ≡ allowed shape.blocks shape.len }
 {
-    let size = shape.size();
-    shape.is_count_allowed()
-        && shape.len <= 65536
-        && usize::from(shape.blocks) * size == shape.len
-        && size % 128 == 0
-        && 256 <= size
+    shape.is_count_allowed() && shape.len <= 65536 && is_size_allowed(shape)
 }
 
 // The block that a transfer goes to.

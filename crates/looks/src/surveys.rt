@@ -1,7 +1,9 @@
 // What a survey tells.
-ghost use Rattle.std.specs.Prelude.{◌≡◌, ◌≤◌};
-ghost use Rattle.looks.specs.Surveys.{is_valid, sum_of, next_time};
+ghost use Rattle.std.specs.Prelude.{◌≡◌, ◌&&◌, ◌≤◌, eqb};
+ghost use Rattle.journal.specs.Block.{last_time};
+ghost use Rattle.looks.specs.Surveys.{is_valid, sum_of, time_for, next_time};
 
+use job::records::LAST_TIME;
 use survey::BlockKind;
 use wire::Refusal;
 
@@ -19,14 +21,29 @@ pub fn sum(p: [u16; 4]) -> usize
     usize::from(a) + usize::from(b) + usize::from(c) + usize::from(d)
 }
 
-// The creation time of the block that is made, 0 for none; or there is no later one.
+// A transfer is needed, and there is no later time.
+pub fn is_worn(moves: bool, time: u32) -> bool
+    ensures { result ≡ (moves && eqb time last_time) }
+{
+    moves && time == LAST_TIME
+}
+
+// The creation time of the block that is made; 0 for none, also where there is no later time.
+pub fn new_time(moves: bool, time: u32) -> u32
+    ensures { result ≡ time_for moves time }
+{
+    if !moves || is_worn(moves, time) {
+        return 0;
+    }
+    time + 1
+}
+
+// The same, or that there is no later time.
 pub fn next_time(moves: bool, time: u32) -> Result<u32, Refusal>
     ensures { result ≡ next_time moves time }
 {
-    if moves {
-        time.checked_add(1).ok_or(Refusal::Worn)
-    } else {
-        // as a job has it where none is made
-        Ok(0)
+    if is_worn(moves, time) {
+        return Err(Refusal::Worn);
     }
+    Ok(new_time(moves, time))
 }
