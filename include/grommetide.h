@@ -191,10 +191,10 @@
  *                               x86-64   Cortex-M3
  *     grommetide_mount           2,304       2,176
  *     grommetide_fault           1,280       1,024
- *     grommetide_format          1,024       1,600
+ *     grommetide_format          1,024       1,472
  *     grommetide_request         2,560       2,432
  *     grommetide_read              640         320
- *     grommetide_next              384         256
+ *     grommetide_next              256         256
  *     grommetide_made            2,560       2,560
  *     grommetide_step            2,688       2,560
  *     grommetide_run             3,072       2,944

@@ -28,8 +28,8 @@ pub fn go_on(image: &[u8], blocks: u8, phase: Phase, m: Moved, board: &mut [u8])
     ensures { Went blocks image.now phase m board.old result board.new }
 {
     match m {
-        Moved::Due(n) => {
-            load(image, blocks, n, board);
+        Moved::Due(s) => {
+            load(image, blocks, s.next, board);
             wire::number(Answer::More)
         }
         Moved::Still(s) => {

@@ -2,7 +2,9 @@
 use mathlib.Core.Path.{◌≡◌, refl, sym, ap, subst, ◌∙◌}
 use mathlib.Core.List.{List, []}
 use mathlib.Core.Logic.{◌⊎◌, inl, inr}
-use mathlib.Core.Option.{Option, none, some}
+use Rattle.std.proofs.Math.Option as maybe
+use Rattle.std.proofs.Math.Option.{none, some}
+use Rattle.std.specs.Prelude.{Option, Some, None}
 use mathlib.Core.Bool.{Bool, true, false, cond, ◌&&◌}
 use Prim.Native.Nat.{ℕ, suc, ◌≤◌, ◌<◌}
 use native.Mathlib.Omega.{arith}
@@ -15,6 +17,7 @@ use Rattle.journal.specs.Index.{Load}
 use Rattle.wire.specs.declared.Answer.{Answer}
 use Rattle.wire.specs.declared.Answer.TheVariants.{Done, More, Refused}
 use Rattle.wire.specs.declared.Refusal.TheVariants as refusal
+use Rattle.board.specs.declared.Cursor.{Cursor}
 use Rattle.board.specs.declared.Stage.{Stage}
 use Rattle.board.specs.declared.Stage.TheVariants.{Wipe, Open, Copy, Seal, Drop, Append, Close}
 use Rattle.board.specs.declared.Phase.{Phase}
@@ -34,7 +37,7 @@ use Rattle.job.proofs.Acting.{in_parts, size_low}
 use Rattle.job.proofs.Entering.{when_true, when_false, going_leaves}
 
 -- a frame loaded or the block sealed, the job goes on
-load-more : (r : Record) (x : Option Load) → More ≡ answer_of (load_or r x)
+load-more : (r : Record) (x : maybe.Option Load) → More ≡ answer_of (load_or r x)
 load-more r (some y) = refl
 load-more r none = refl
 
@@ -59,38 +62,47 @@ module _ (p u f : List ℕ) (st : Stage) (count : ℕ) (n : Numbers) where
       subst (LeadsTo p u f s)
       (when_false (ltb (suc n.cursor.index) count) (in_stage st (next_index n.cursor) (assemble n p u f)) after e) l
 
-  -- the stage's next step, or what comes after its last
-  pub onward_leaves : (s x : Stepped) (after : Record)
-      → (ltb (suc n.cursor.index) count ≡ true → s ≡ going st (next_index n.cursor) n)
-      → (ltb (suc n.cursor.index) count ≡ false → s ≡ x)
-      → LeadsTo p u f x after
+  -- the cursor at the stage's next step
+  abbrev pub next_if : Option Cursor
+  next_if = cond (ltb (suc n.cursor.index) count) (Some (next_index n.cursor)) None
+
+  -- there it goes on
+  pub some_leaves : (c : Cursor) (s : Stepped) (after : Record) → Some c ≡ next_if → s ≡ going st c n
       → LeadsTo p u f s (onward st count (assemble n p u f) after)
-  onward_leaves s x after on off l =
+  some_leaves c s after e g =
       on_test (ltb (suc n.cursor.index) count)
-      (λ t. subst (λ (y : Stepped). LeadsTo p u f y (onward st count (assemble n p u f) after)) (sym (on t)) (on_leaves after t))
-      (λ t. subst (λ (y : Stepped). LeadsTo p u f y (onward st count (assemble n p u f) after)) (sym (off t)) (off_leaves x after t l))
+      (λ t.
+      let h : Some c ≡ Some (next_index n.cursor) = rw t at e in
+      let q : c ≡ next_index n.cursor = cc in
+      subst (λ (y : Stepped). LeadsTo p u f y (onward st count (assemble n p u f) after)) (sym (g ∙ ap (λ (y : Cursor). going st y n) q)) (on_leaves after t))
+      (λ t. let h : Some c ≡ None = rw t at e in cc)
+
+  -- past its last step comes what follows
+  pub none_leaves : (s x : Stepped) (after : Record) → None ≡ next_if → s ≡ x → LeadsTo p u f x after
+      → LeadsTo p u f s (onward st count (assemble n p u f) after)
+  none_leaves s x after e g l =
+      on_test (ltb (suc n.cursor.index) count)
+      (λ t. let h : None ≡ Some (next_index n.cursor) = rw t at e in cc)
+      (λ t. subst (λ (y : Stepped). LeadsTo p u f y (onward st count (assemble n p u f) after)) (sym g) (off_leaves x after t l))
 
 module _ (N : ℕ) (i p u f : List ℕ) where
   pub still_moves : (s : Stepped) (r : Record) → LeadsTo p u f s r → Moves N i p u f (Still s) r
   still_moves s r l = record { answers = l.answers; gives = l.gives; goes = l.goes }
 
   -- the next frame is due
-  due_moves : (n : Numbers) → Moves N i p u f (Due n) (enter_copy N i (assemble n p u f))
+  due_moves : (n : Numbers) → Moves N i p u f (Due (staying More n)) (enter_copy N i (assemble n p u f))
   due_moves n = record { answers = copy_more N i (assemble n p u f); gives = refl; goes = λ e. refl }
 
-  pub open_moves : (n : Numbers) (m : Moved)
-      → (ltb (suc n.cursor.index) mark_writes ≡ true → m ≡ Still (going Open (next_index n.cursor) n))
-      → (ltb (suc n.cursor.index) mark_writes ≡ false → m ≡ Due n)
-      → Moves N i p u f m (advance N Open i (assemble n p u f))
+  -- the block is opened: the first frame is due
+  pub none_moves : (n : Numbers) (s : Stepped) → None ≡ next_if p u f Open mark_writes n → s ≡ staying More n
+      → Moves N i p u f (Due s) (advance N Open i (assemble n p u f))
   unfolding advance
-  open_moves n m on off =
-      let after : Record = enter_copy N i (assemble n p u f) in
+  none_moves n s e g =
       on_test (ltb (suc n.cursor.index) mark_writes)
-      (λ t. subst (λ (y : Moved). Moves N i p u f y (advance N Open i (assemble n p u f))) (sym (on t))
-      (still_moves (going Open (next_index n.cursor) n) (advance N Open i (assemble n p u f)) (on_leaves p u f Open mark_writes n after t)))
-      (λ t. subst (λ (y : Moved). Moves N i p u f y (advance N Open i (assemble n p u f))) (sym (off t))
-      (subst (Moves N i p u f (Due n))
-      (when_false (ltb (suc n.cursor.index) mark_writes) (in_stage Open (next_index n.cursor) (assemble n p u f)) after t) (due_moves n)))
+      (λ t. let h : None ≡ Some (next_index n.cursor) = rw t at e in cc)
+      (λ t. subst (Moves N i p u f (Due s))
+      (when_false (ltb (suc n.cursor.index) mark_writes) (in_stage Open (next_index n.cursor) (assemble n p u f)) (enter_copy N i (assemble n p u f)) t)
+      (subst (λ (y : Stepped). Moves N i p u f (Due y) (enter_copy N i (assemble n p u f))) (sym g) (due_moves n)))
 
 -- ---- a byte copied
 
@@ -107,7 +119,7 @@ module _ (N : ℕ) (i p u f : List ℕ) (n : Numbers) where
   -- where a byte leaves the job: a frame that is past its last byte is followed by the next one
   abbrev byte_moved : Bool → Moved
   byte_moved true = Still (staying More (past true))
-  byte_moved false = Due (past false)
+  byte_moved false = Due (staying More (past false))
 
   byte_moves : (b : Bool) → Moves N i p u f (byte_moved b)
       (cond b (in_stage Copy (next_byte n.cursor) was) (enter_copy N i (in_stage Copy (past_frame n.cursor) was)))
@@ -270,11 +282,11 @@ module _ (N : ℕ) (p u f img : List ℕ) (o : Out) where
   pub load_steps : (m : Moved) → Steps (answered m) (ended_at m) (reached N m img p u f) img o
       → (p' u' : List ℕ) (s : Stepped) → Loads N img p u f m s p' u' → Steps s.answer s.ended (leaves s p' u' f) img o
   load_steps (Still y) x p' u' s l = rw ((l.none y refl).0, (l.none y refl).1, (l.none y refl).2) x
-  load_steps (Due n) x p' u' s l =
-      let d = l.due n refl in
+  load_steps (Due y) x p' u' s l =
+      let d = l.due y refl in
       record {
         image = x.image;
-        answers = d.answers ∙ sym (copy_more N img (assemble n p u f)) ∙ x.answers;
+        answers = d.answers ∙ sym (copy_more N img (assemble y.next p u f)) ∙ x.answers;
         gives = d.gives ∙ x.gives;
         goes = d.goes;
       }

@@ -227,16 +227,16 @@ Appends c frame = c ≡ committer (get_or frame kind_at 0) (get_or frame body_at
 -- the record that it reaches once the frame that is due is loaded, read from the image
 abbrev pub reached : ℕ → Moved → List ℕ → List ℕ → List ℕ → List ℕ → Record
 reached N (Still s) img places unit frame = leaves s places unit frame
-reached N (Due n) img places unit frame = enter_copy N img (assemble n places unit frame)
+reached N (Due s) img places unit frame = enter_copy N img (assemble s.next places unit frame)
 
 -- with a frame loaded, or none left to load, the job goes on
 abbrev pub answered : Moved → Answer
 answered (Still s) = s.answer
-answered (Due n) = More
+answered (Due s) = More
 
 abbrev pub ended_at : Moved → Bool
 ended_at (Still s) = s.ended
-ended_at (Due n) = false
+ended_at (Due s) = false
 
 pub record Moves (N : ℕ) (img places unit frame : List ℕ) (m : Moved) (r : Record) : Type 0 where
   pub answers : answered m ≡ answer_of r
@@ -245,7 +245,7 @@ pub record Moves (N : ℕ) (img places unit frame : List ℕ) (m : Moved) (r : R
 
 -- the frame that is due is loaded, into the arrays that are lent; where none is due nothing is done
 pub record Loads (N : ℕ) (img places unit frame : List ℕ) (m : Moved) (s : Stepped) (places' unit' : List ℕ) : Type 0 where
-  pub due : (n : Numbers) → m ≡ Due n → LeadsTo places' unit' frame s (enter_copy N img (assemble n places unit frame))
+  pub due : (x : Stepped) → m ≡ Due x → LeadsTo places' unit' frame s (enter_copy N img (assemble x.next places unit frame))
   pub none : (x : Stepped) → m ≡ Still x → (s ≡ x) × (places' ≡ places) × (unit' ≡ unit)
 
 -- an answer, a record and an image are what a step call gives back

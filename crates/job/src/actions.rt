@@ -73,8 +73,11 @@ pub fn next_action(stage: Stage, n: Numbers, byte: u8) -> Action
     ensures { flash_step result ≡ action_by stage n byte }
 {
     let i = n.cursor.index;
+    // arrays of their own: one that is indexed within n would keep all of n in memory
+    let wipe = n.job.wipe;
+    let close = n.job.close;
     match stage {
-        Stage::Wipe => Action::Erase(flash::get_or(&n.job.wipe, i as usize, 0)),
+        Stage::Wipe => Action::Erase(flash::get_or(&wipe, i as usize, 0)),
         Stage::Open => {
             let (at, byte) = open_write(Edition::from(n.job.edition), i);
             Action::Program(n.job.target, at, byte)
@@ -87,7 +90,7 @@ pub fn next_action(stage: Stage, n: Numbers, byte: u8) -> Action
         Stage::Drop => Action::Erase(n.rest.block),
         Stage::Append => Action::Program(n.rest.block, n.rest.end as usize + i as usize, byte),
         Stage::Close => {
-            let at = flash::get_or(&n.job.close, i as usize, 0);
+            let at = flash::get_or(&close, i as usize, 0);
             Action::Program(n.rest.block, at as usize, close_byte(i, n.job.closes))
         }
     }

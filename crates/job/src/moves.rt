@@ -2,18 +2,19 @@
 ghost use Rattle.std.specs.Prelude.{◌≡◌, List, cond, ℕ, suc, ◌<◌, ltb, Some, None};
 ghost use Rattle.board.specs.declared.Stage.TheVariants as stages;
 ghost use Rattle.board.specs.Step.{next_index, advance};
-ghost use Rattle.job.specs.Code.{assemble, staged, going, LeadsTo, Moves, moved_byte, offset_for};
+ghost use Rattle.job.specs.Code.{assemble, staged, LeadsTo, Moves, moved_byte, offset_for};
 
 use crate::records::{Numbers, Stepped};
 use crate::{header, records};
 use board::{Cursor, Phase, Rest, Stage};
 use wire::Answer;
 
-// Where a step leaves a job. No array is read: where the next frame is due, enter_copy goes on from there.
+// Where a step leaves a job. No array is read: where the next frame is due, enter_copy goes on from there. Both hold the same, at the same
+// place: what a step does not change is then not copied.
 #[derive(Clone, Copy)]
 pub enum Moved {
     Still(Stepped),
-    Due(Numbers),
+    Due(Stepped),
 }
 
 // There is a step more, of so many.
@@ -23,30 +24,35 @@ fn has_next(index: u8, count: u8) -> bool
     index as usize + 1 < count as usize
 }
 
-// The stage's next step, if it has one more of so many.
-fn next_step(stage: Stage, count: u8, n: Numbers) -> Option<Stepped>
-    ensures { result ≡ cond (ltb (suc n.cursor.index) count) (Some (going stage (next_index n.cursor) n)) None }
+// The cursor at the stage's next step, if it has one more of so many. Without the job's other numbers, which an Option would copy whole.
+fn next_cursor(cursor: Cursor, count: u8) -> Option<Cursor>
+    ensures { result ≡ cond (ltb (suc cursor.index) count) (Some (next_index cursor)) None }
 {
-    if !has_next(n.cursor.index, count) {
+    if !has_next(cursor.index, count) {
         return None;
     }
-    let next = Cursor {
-        index: n.cursor.index + 1,
-        ..n.cursor
-    };
-    Some(n.going(stage, next))
+    Some(Cursor {
+        index: cursor.index + 1,
+        ..cursor
+    })
 }
 
 fn after_wipe(n: Numbers) -> Stepped
     ensures { (N : ℕ) (i p u f : List ℕ) → LeadsTo p u f result (advance N stages.Wipe i (assemble n p u f)) }
 {
-    next_step(Stage::Wipe, n.job.wipes, n).unwrap_or_else(|| n.enter_open())
+    match next_cursor(n.cursor, n.job.wipes) {
+        Some(next) => n.going(Stage::Wipe, next),
+        None => n.enter_open(),
+    }
 }
 
 fn after_open(n: Numbers) -> Moved
     ensures { (N : ℕ) (i p u f : List ℕ) → Moves N i p u f result (advance N stages.Open i (assemble n p u f)) }
 {
-    next_step(Stage::Open, header::OPENING, n).map_or(Moved::Due(n), Moved::Still)
+    match next_cursor(n.cursor, header::OPENING) {
+        Some(next) => Moved::Still(n.going(Stage::Open, next)),
+        None => Moved::Due(n.staying(Answer::More)),
+    }
 }
 
 // Past the byte that was copied: to the frame's next, or past the frame.
@@ -72,9 +78,9 @@ fn after_copy(n: Numbers) -> Moved
     requires { n.cursor.at < 32768 }
     ensures { (N : ℕ) (i p u f : List ℕ) → Moves N i p u f result (advance N stages.Copy i (assemble n p u f)) }
 {
-    let next = next_byte(n);
+    let next = next_byte(n).staying(Answer::More);
     if has_next(n.cursor.off, n.cursor.size) {
-        return Moved::Still(next.staying(Answer::More));
+        return Moved::Still(next);
     }
     Moved::Due(next)
 }
@@ -82,7 +88,10 @@ fn after_copy(n: Numbers) -> Moved
 fn after_seal(n: Numbers) -> Stepped
     ensures { (N : ℕ) (i p u f : List ℕ) → LeadsTo p u f result (advance N stages.Seal i (assemble n p u f)) }
 {
-    next_step(Stage::Seal, header::SEALING, n).unwrap_or_else(|| n.enter_drop())
+    match next_cursor(n.cursor, header::SEALING) {
+        Some(next) => n.going(Stage::Seal, next),
+        None => n.enter_drop(),
+    }
 }
 
 fn after_drop(n: Numbers) -> Stepped
@@ -95,14 +104,22 @@ fn after_append(n: Numbers) -> Stepped
     requires { n.rest.end < 32768 }
     ensures { (N : ℕ) (i p u f : List ℕ) → LeadsTo p u f result (advance N stages.Append i (assemble n p u f)) }
 {
-    let end = n.rest.end + u16::from(n.job.size);
-    next_step(Stage::Append, n.job.size, n).unwrap_or_else(|| records::over(Rest { end, ..n.rest }))
+    match next_cursor(n.cursor, n.job.size) {
+        Some(next) => n.going(Stage::Append, next),
+        None => {
+            let end = n.rest.end + u16::from(n.job.size);
+            records::over(Rest { end, ..n.rest })
+        }
+    }
 }
 
 fn after_close(n: Numbers) -> Stepped
     ensures { (N : ℕ) (i p u f : List ℕ) → LeadsTo p u f result (advance N stages.Close i (assemble n p u f)) }
 {
-    next_step(Stage::Close, n.job.closes, n).unwrap_or_else(|| n.enter_append())
+    match next_cursor(n.cursor, n.job.closes) {
+        Some(next) => n.going(Stage::Close, next),
+        None => n.enter_append(),
+    }
 }
 
 // After a step whose place was in the image.

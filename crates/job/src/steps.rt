@@ -171,9 +171,9 @@ pub fn load_due(
 {
     match m {
         Moved::Still(s) => s,
-        Moved::Due(n) => {
+        Moved::Due(s) => {
             let committer = placing::committer(frame[KIND_AT], frame[BODY_AT]);
-            enter_copy(image, blocks, n, committer, places, unit)
+            enter_copy(image, blocks, s.next, committer, places, unit)
         }
     }
 }

@@ -39,7 +39,7 @@ four P h (a ∷ b ∷ c ∷ d ∷ x ∷ s) e = absurd (omega arith)
 -- the fields of a head over zeros, with these words pending
 abbrev head_with : ℕ → Rest → List ℕ → List ℕ
 head_with p r s =
-    set (laid_at 7 (word_bytes s) (set (laid_at 4 (u16le r.end) (set (laid_at 1 (u16le r.last) (set (replicate 16 0) 0 p)) 3 r.block)) 6 r.blocks)) 15 r.edition
+    set (laid_at 7 (word_bytes s) (set (laid_at 4 (word_bytes (r.end ∷ [])) (set (laid_at 1 (word_bytes (r.last ∷ [])) (set (replicate 16 0) 0 p)) 3 r.block)) 6 r.blocks)) 15 r.edition
 
 pub head-laid : (p : ℕ) (r : Rest) → length r.pending ≡ 4 → head_with p r r.pending ≡ p ∷ rest_bytes r
 unfolding laid_at overlay word_bytes
@@ -63,7 +63,7 @@ plan-laid j e f =
     (λ a b c d. four (λ t. plan_with j (a ∷ b ∷ c ∷ d ∷ []) t ≡ bytes (a ∷ b ∷ c ∷ d ∷ []) t) (λ k l m n. refl) j.close f) j.since e
 
 pub cursor-laid : (c : Cursor)
-    → set (set (laid_at 5 (u16le c.source) (laid_at 3 (u16le c.id) (laid_at 1 (u16le c.at) (set (replicate 9 0) 0 c.index)))) 7 c.size) 8 c.off
+    → set (set (laid_at 1 (word_bytes (c.at ∷ c.id ∷ c.source ∷ [])) (set (replicate 9 0) 0 c.index)) 7 c.size) 8 c.off
     ≡ cursor_bytes c
-unfolding laid_at overlay
+unfolding laid_at overlay word_bytes
 cursor-laid c = refl

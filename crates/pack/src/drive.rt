@@ -10,8 +10,10 @@ use job::records::{Numbers, Stepped};
 pub(crate) fn lay_numbers(n: Numbers, bytes: &mut [u8])
     ensures { bytes.new ≡ numbers_into n bytes.old }
 {
+    // an array of its own: a copy looks at where its source lies, and one within n would keep all of n in memory
+    let wipe = n.job.wipe;
     lay_at(bytes, 0, &head_bytes(n));
-    lay_at(bytes, lent::JOB_AT, &n.job.wipe);
+    lay_at(bytes, lent::JOB_AT, &wipe);
     lay_at(bytes, lent::PLAN_AT, &plan_bytes(n.job));
     lay_at(bytes, lent::CURSOR_AT, &cursor_bytes(n.cursor));
 }

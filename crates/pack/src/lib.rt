@@ -41,9 +41,9 @@ fn head_bytes(n: Numbers) -> [u8; lent::PLACES_AT]
     let rest = n.rest;
     let mut head = [0; lent::PLACES_AT];
     head[0] = phase_byte(n.phase);
-    lay_at(&mut head, lent::LAST_AT, &rest.last.to_le_bytes());
+    lay_words(&mut head, lent::LAST_AT, &[rest.last]);
     head[lent::BLOCK_AT] = rest.block;
-    lay_at(&mut head, lent::END_AT, &rest.end.to_le_bytes());
+    lay_words(&mut head, lent::END_AT, &[rest.end]);
     head[lent::BLOCKS_AT] = rest.blocks;
     lay_words(&mut head, lent::PENDING_AT, &rest.pending);
     head[lent::EDITION_AT] = rest.edition;
@@ -73,9 +73,11 @@ fn cursor_bytes(cursor: Cursor) -> [u8; lent::CURSOR_SIZE]
 {
     let mut bytes = [0; lent::CURSOR_SIZE];
     bytes[0] = cursor.index;
-    lay_at(&mut bytes, lent::MADE_AT, &cursor.at.to_le_bytes());
-    lay_at(&mut bytes, lent::ID_AT, &cursor.id.to_le_bytes());
-    lay_at(&mut bytes, lent::SOURCE_AT, &cursor.source.to_le_bytes());
+    lay_words(
+        &mut bytes,
+        lent::MADE_AT,
+        &[cursor.at, cursor.id, cursor.source],
+    );
     bytes[lent::COPY_AT] = cursor.size;
     bytes[lent::OFF_AT] = cursor.off;
     bytes

@@ -1,16 +1,17 @@
 -- After a write that seals a block.
-use borrow.Author.Rules.{rules}
+use mathlib.Core.Path.{sym, ◌∙◌}
 use Rattle.board.specs.declared.Stage.TheVariants.{Seal}
 use Rattle.board.specs.Step.{advance}
-use Rattle.job.specs.Code.{go_drop}
 use Rattle.job.proofs.Entering.{drop_leaves}
-use Rattle.job.proofs.Advancing.{onward_leaves}
+use Rattle.job.proofs.Advancing.{some_leaves, none_leaves}
 use Rattle.job.proofs.moves.after_seal.Goals as goal
 
-pub returns : goal.returns
+pub returns-in-Some : goal.returns-in-Some
 unfolding advance
-returns c =
-    λ N i p u f. onward_leaves p u f Seal 5 c.args.n c.unwrap_or_else.result (go_drop c.args.n) _
-    (λ t. rw (c.next_step.ensures, t) at c.unwrap_or_else.ensures)
-    (λ t. let h = rw (c.next_step.ensures, t) at c.unwrap_or_else.ensures in search rules)
-    (drop_leaves p u f c.args.n)
+returns-in-Some c =
+    λ N i p u f. some_leaves p u f Seal 5 c.args.n c.in-Some.next c.going.result _ (sym c.in-Some.is ∙ c.next_cursor.ensures) c.going.ensures
+
+pub returns-in-None : goal.returns-in-None
+unfolding advance
+returns-in-None c =
+    λ N i p u f. none_leaves p u f Seal 5 c.args.n c.enter_drop.result _ _ (sym c.in-None.is ∙ c.next_cursor.ensures) c.enter_drop.ensures (drop_leaves p u f c.args.n)
